@@ -1,0 +1,13 @@
+pub mod Sums
+pub mod Turns
+pub mod Rooms
+pub mod Written
+pub mod Patches
+pub mod Words
+pub mod WordPuts
+pub mod Lists
+pub mod Answers
+pub mod Laws
+pub mod Slices
+pub mod Fixes
+pub mod OneAnswer

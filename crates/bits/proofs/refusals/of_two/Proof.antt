@@ -1,0 +1,30 @@
+-- `bits::refusals::of_two` meets its contract. Assumes nothing.
+use mathlib.Core.Path.{_≡_, refl, sym}
+use mathlib.Core.List.{[], _∷_}
+use Prim.Native.Nat.{ℕ, zero, suc}
+use borrow.Author.Needs.{needs}
+use native.Mathlib.Omega.{arith}
+use lib.ListN.{getD}
+use Rattle.bits.proofs.refusals.of_two.Statement.{statement}
+use Rattle.bits.proofs.refusals.of_two.Tie as tie
+use Rattle.bits.proofs.refusals.of_two.Reads as reads
+use Rattle.bits.proofs.refusals.of_two.Lts as lts
+
+-- src/refusals.rt:65:9
+returns : tie.Need-returns
+returns c = search needs
+
+-- src/refusals.rt:68:9
+returns-2 : tie.Need-returns-2
+returns-2 c = search needs
+
+past : (a b i : ℕ) → (i ≡ 0 → ⊥) → (i ≡ 1 → ⊥) → 0 ≡ getD (a ∷ b ∷ []) i 0
+past a b zero h g = absurd (h refl)
+past a b (suc zero) h g = absurd (g refl)
+past a b (suc (suc i)) h g = refl
+
+returns-3 : tie.Need-returns-3
+returns-3 c = past _ _ (c .before .before .args .i) (c .before .if1 .left) (c .if2 .left)
+
+pub of-two-spec : {M : Type 1} → statement M
+of-two-spec = tie.close (tie.spec returns returns-2 returns-3)

@@ -1,0 +1,4 @@
+pub mod Bits
+pub mod Refusals
+pub mod Calls
+pub mod Patch

@@ -1,0 +1,71 @@
+// Document 01's number for a refusal, and the values that it carries, in the paper's order.
+ghost use mathlib.Core.Path.{_≡_};
+ghost use mathlib.Core.List.{[], _∷_};
+ghost use lib.ListN.{length, getD};
+ghost use Rattle.bits.specs.Refusals.{numberOf, carriedOf};
+use crate::BitRefusal;
+
+impl BitRefusal {
+    pub fn number(self) -> u32
+        ensures { λ r. ⌜ r ≡ numberOf self ⌝ }
+    {
+        match self {
+            BitRefusal::BufferTooLong { length: _ } => 6,
+            BitRefusal::TooLongForType { max: _, asked: _ } => 1,
+            BitRefusal::NonAlignedBit { cursor: _ } => 3,
+            BitRefusal::OutOfBits {
+                asked: _,
+                available: _,
+            } => 2,
+            BitRefusal::OutOfBytes {
+                asked: _,
+                available: _,
+            } => 2,
+        }
+    }
+
+    // How many values it carries.
+    pub fn carried_count(self) -> usize
+        ensures { λ r. ⌜ r ≡ length (carriedOf self) ⌝ }
+    {
+        match self {
+            BitRefusal::BufferTooLong { length: _ } => 1,
+            BitRefusal::TooLongForType { max: _, asked: _ } => 2,
+            BitRefusal::NonAlignedBit { cursor: _ } => 1,
+            BitRefusal::OutOfBits {
+                asked: _,
+                available: _,
+            } => 2,
+            BitRefusal::OutOfBytes {
+                asked: _,
+                available: _,
+            } => 2,
+        }
+    }
+
+    // The value at place i of what it carries, 0 past the last.
+    pub fn carried(self, i: usize) -> usize
+        ensures { λ r. ⌜ r ≡ getD (carriedOf self) i 0 ⌝ }
+    {
+        match self {
+            BitRefusal::BufferTooLong { length } => of_two(length.0, 0, i),
+            BitRefusal::TooLongForType { max, asked } => of_two(max as usize, asked as usize, i),
+            BitRefusal::NonAlignedBit { cursor } => of_two(cursor.0, 0, i),
+            BitRefusal::OutOfBits { asked, available } => of_two(asked.0, available.0, i),
+            BitRefusal::OutOfBytes { asked, available } => of_two(asked.0, available.0, i),
+        }
+    }
+}
+
+// a at 0, b at 1, and 0 past them.
+fn of_two(a: usize, b: usize, i: usize) -> usize
+    ensures { λ r. ⌜ r ≡ getD (a ∷ b ∷ []) i 0 ⌝ }
+{
+    if i == 0 {
+        return a;
+    }
+    if i == 1 {
+        return b;
+    }
+    0
+}
