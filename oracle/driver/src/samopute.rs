@@ -1,0 +1,110 @@
+//! The C interface of the library under test, made safe. Each function answers document 01's refusal
+//! number, or 0, and fills `answer` with the cursor after the call and two values.
+
+/// What a call fills in.
+pub type Answer = [u64; 3];
+
+mod c {
+    type Answer = *mut super::Answer;
+
+    unsafe extern "C" {
+        pub fn samopute_read_u64(b: *const u8, l: usize, at: usize, n: u32, a: Answer) -> u32;
+        pub fn samopute_read_u32(b: *const u8, l: usize, at: usize, n: u32, a: Answer) -> u32;
+        pub fn samopute_read_u16(b: *const u8, l: usize, at: usize, n: u32, a: Answer) -> u32;
+        pub fn samopute_read_u8(b: *const u8, l: usize, at: usize, n: u32, a: Answer) -> u32;
+        pub fn samopute_advance(b: *const u8, l: usize, at: usize, n: u32, a: Answer) -> u32;
+        pub fn samopute_read_slice(b: *const u8, l: usize, at: usize, n: usize, a: Answer) -> u32;
+        pub fn samopute_bits_remaining(b: *const u8, l: usize, at: usize) -> usize;
+
+        pub fn samopute_write_u64(
+            b: *mut u8,
+            l: usize,
+            at: usize,
+            v: u64,
+            n: u32,
+            a: Answer,
+        ) -> u32;
+        pub fn samopute_write_u32(
+            b: *mut u8,
+            l: usize,
+            at: usize,
+            v: u32,
+            n: u32,
+            a: Answer,
+        ) -> u32;
+        pub fn samopute_write_u16(
+            b: *mut u8,
+            l: usize,
+            at: usize,
+            v: u16,
+            n: u32,
+            a: Answer,
+        ) -> u32;
+        pub fn samopute_write_u8(b: *mut u8, l: usize, at: usize, v: u8, n: u32, a: Answer) -> u32;
+        pub fn samopute_write_advance(b: *mut u8, l: usize, at: usize, n: u32, a: Answer) -> u32;
+        pub fn samopute_write_slice(
+            b: *mut u8,
+            l: usize,
+            at: usize,
+            src: *const u8,
+            n: usize,
+            a: Answer,
+        ) -> u32;
+    }
+}
+
+// SAFETY, for every call below: the pointers and lengths come from live slices of just those lengths,
+// exclusive where the library writes, and `answer` has room for three numbers.
+
+macro_rules! reads {
+    ($($name:ident = $call:ident ( $count:ty );)*) => { $(
+        pub fn $name(buffer: &[u8], cursor: usize, count: $count, answer: &mut Answer) -> u32 {
+            unsafe { c::$call(buffer.as_ptr(), buffer.len(), cursor, count, answer) }
+        }
+    )* };
+}
+
+reads! {
+    read_u64 = samopute_read_u64(u32);
+    read_u32 = samopute_read_u32(u32);
+    read_u16 = samopute_read_u16(u32);
+    read_u8 = samopute_read_u8(u32);
+    advance = samopute_advance(u32);
+    read_slice = samopute_read_slice(usize);
+}
+
+macro_rules! writes {
+    ($($name:ident = $call:ident ( $value:ty );)*) => { $(
+        pub fn $name(
+            buffer: &mut [u8],
+            cursor: usize,
+            value: $value,
+            width: u32,
+            answer: &mut Answer,
+        ) -> u32 {
+            unsafe { c::$call(buffer.as_mut_ptr(), buffer.len(), cursor, value, width, answer) }
+        }
+    )* };
+}
+
+writes! {
+    write_u64 = samopute_write_u64(u64);
+    write_u32 = samopute_write_u32(u32);
+    write_u16 = samopute_write_u16(u16);
+    write_u8 = samopute_write_u8(u8);
+}
+
+pub fn write_advance(buffer: &mut [u8], cursor: usize, width: u32, answer: &mut Answer) -> u32 {
+    let (start, length) = (buffer.as_mut_ptr(), buffer.len());
+    unsafe { c::samopute_write_advance(start, length, cursor, width, answer) }
+}
+
+pub fn write_slice(buffer: &mut [u8], cursor: usize, source: &[u8], answer: &mut Answer) -> u32 {
+    let (start, length) = (buffer.as_mut_ptr(), buffer.len());
+    let (from, count) = (source.as_ptr(), source.len());
+    unsafe { c::samopute_write_slice(start, length, cursor, from, count, answer) }
+}
+
+pub fn bits_remaining(buffer: &[u8], cursor: usize) -> usize {
+    unsafe { c::samopute_bits_remaining(buffer.as_ptr(), buffer.len(), cursor) }
+}
