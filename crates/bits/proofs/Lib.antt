@@ -9,5 +9,4 @@ pub mod Lists
 pub mod Answers
 pub mod Laws
 pub mod Slices
-pub mod Fixes
 pub mod OneAnswer

@@ -1,7 +1,7 @@
 -- "It is proved that two answers allowed for an input are equal", and so are two contents of a lent buffer: of the
 -- contract of each public call as the source states it, `Post`. Assumes nothing.
 use denote.Ref.{now}
-use Rattle.bits.proofs.Fixes.{Fixes, fixed}
+use Rattle.one_answer.proofs.Fixes.{Fixes, fixed}
 use Rattle.bits.proofs.Cursor.new.Reads as new
 use Rattle.bits.proofs.Cursor.seek.Reads as seek
 use Rattle.bits.proofs.Cursor.bit_cursor.Reads as bit-cursor

@@ -1,7 +1,7 @@
 -- Two answers allowed for an input are equal, and so are two contents of what is lent: of the contract of each public call
 -- as the source states it, `Post`. Assumes nothing.
 use denote.Ref.{now}
-use Rattle.bits.proofs.Fixes.{Fixes, fixed}
+use Rattle.one_answer.proofs.Fixes.{Fixes, fixed}
 use Rattle.samopute_c.proofs.reading.samopute_read_u64.Reads as read-u64
 use Rattle.samopute_c.proofs.reading.samopute_read_u32.Reads as read-u32
 use Rattle.samopute_c.proofs.reading.samopute_read_u16.Reads as read-u16
