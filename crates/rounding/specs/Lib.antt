@@ -1,0 +1,3 @@
+pub mod Narrowing
+pub mod Truncation
+pub mod Closeness
