@@ -1,0 +1,6 @@
+pub mod Widths
+pub mod Nans
+pub mod Limits
+pub mod Machine
+pub mod Beyond
+pub mod OneAnswer

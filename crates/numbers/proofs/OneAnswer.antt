@@ -1,0 +1,39 @@
+-- Two answers allowed for an input are equal: of the contract of each public call as the source states it, `Post`.
+-- Assumes nothing.
+use Rattle.one_answer.proofs.Fixes.{Fixes, fixed}
+use Rattle.numbers.proofs.signs.sign_extend.Reads as sign-extend
+use Rattle.numbers.proofs.scale.scale_raw_field.Reads as scale-raw-field
+use Rattle.numbers.proofs.special.number_availability.Reads as number-availability
+use Rattle.numbers.proofs.special.counter_elements.Reads as counter-elements
+use Rattle.numbers.proofs.quantizing.quantize.Reads as quantize
+use Rattle.numbers.proofs.conversions.pgn_value_to_f64.Reads as pgn-value-to-f64
+use Rattle.numbers.proofs.conversions.pgn_value_to_i64.Reads as pgn-value-to-i64
+use Rattle.numbers.proofs.conversions.pgn_value_to_u64.Reads as pgn-value-to-u64
+use Rattle.numbers.proofs.conversions.number_to_raw.Reads as number-to-raw
+
+one-sign-extend : Fixes sign-extend.Post (λ κs x s. x)
+one-sign-extend = fixed (λ κs a x s p. p)
+
+one-scale-raw-field : Fixes scale-raw-field.Post (λ κs x s. x)
+one-scale-raw-field = fixed (λ κs a x s p. p)
+
+one-number-availability : Fixes number-availability.Post (λ κs x s. x)
+one-number-availability = fixed (λ κs a x s p. p)
+
+one-counter-elements : Fixes counter-elements.Post (λ κs x s. x)
+one-counter-elements = fixed (λ κs a x s p. p)
+
+one-quantize : Fixes quantize.Post (λ κs x s. x)
+one-quantize = fixed (λ κs a x s p. p)
+
+one-pgn-value-to-f64 : Fixes pgn-value-to-f64.Post (λ κs x s. x)
+one-pgn-value-to-f64 = fixed (λ κs a x s p. p)
+
+one-pgn-value-to-i64 : Fixes pgn-value-to-i64.Post (λ κs x s. x)
+one-pgn-value-to-i64 = fixed (λ κs a x s p. p)
+
+one-pgn-value-to-u64 : Fixes pgn-value-to-u64.Post (λ κs x s. x)
+one-pgn-value-to-u64 = fixed (λ κs a x s p. p)
+
+one-number-to-raw : Fixes number-to-raw.Post (λ κs x s. x)
+one-number-to-raw = fixed (λ κs a x s p. p)

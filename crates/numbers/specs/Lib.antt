@@ -1,0 +1,5 @@
+pub mod Signs
+pub mod Scaling
+pub mod Special
+pub mod Quantizing
+pub mod Conversions

@@ -1,0 +1,68 @@
+// Raw numbers and the values that they stand for: document 01, "Raw numbers and floats".
+//
+// Promise: every call takes any raw, value and descriptor and gives the one answer that specs/ says;
+// a value that does not fit gets refusal 10, one of another kind 11. No call has a `requires`. A
+// float is a value of IEEE 754 as the logic has it, with one NaN; nothing else is assumed.
+mod conversions;
+mod quantizing;
+mod scale;
+mod signs;
+mod special;
+
+pub use crate::conversions::number_to_raw;
+pub use crate::conversions::pgn_value_to_f64;
+pub use crate::conversions::pgn_value_to_i64;
+pub use crate::conversions::pgn_value_to_u64;
+pub use crate::quantizing::quantize;
+pub use crate::scale::scale_raw_field;
+pub use crate::signs::sign_extend;
+pub use crate::special::counter_elements;
+pub use crate::special::number_availability;
+
+// The rules by which a raw becomes a value and a value a raw.
+pub(crate) enum ScaleRule {
+    // Number, Lookup, IndirectLookup, Pgn, IsoName.
+    Plain,
+    // Date, Mmsi.
+    Counted,
+    // Duration.
+    Lasting,
+    // Time.
+    Clock,
+    // Float.
+    Real,
+    // BitLookup, and a Binary that is no whole number of bytes.
+    Flags,
+}
+
+// The answer of `quantize`.
+pub enum Quantized {
+    Raw(u64),
+    // 10
+    OutOfRange,
+}
+
+// The answers of the conversions.
+pub enum AsF64 {
+    Got(f64),
+    Mismatch,
+}
+
+pub enum AsI64 {
+    Got(i64),
+    Mismatch,
+}
+
+pub enum AsU64 {
+    Got(u64),
+    Mismatch,
+}
+
+// The answer of `number_to_raw`.
+pub enum RawOf {
+    Raw(u64),
+    // 10
+    OutOfRange,
+    // 11
+    WrongKind,
+}
