@@ -3,8 +3,13 @@
 // numbers; `PgnBytes` is a place in the payload or in the lent text.
 //
 // There is no rule here: what a descriptor may hold is the table check's to say, and every value of
-// these types may be given to every call.
+// these types may be given to every call. Every number names a kind, and every mark a resolution.
 use bits::ByteCount;
+
+mod kinds;
+
+pub use crate::kinds::kind_of;
+pub use crate::kinds::resolution_of;
 
 // What a field means. `Decimal` and `Unimplemented` are the Rust's; the table check refuses them.
 pub enum FieldKind {

@@ -1,5 +1,4 @@
 pub mod Widths
-pub mod Nans
 pub mod Limits
 pub mod Machine
 pub mod Beyond

@@ -112,14 +112,10 @@ fn whole(n: u32, signed: bool, value: PgnValue) -> RawOf
     ranged(quantizing::unsigned_integer(n, m))
 }
 
-// The bits of an f32. Those of a NaN cannot be read, so it has the NaN's that the logic has.
 fn float_bits(x: f32) -> u64
     ensures { λ r. ⌜ r ≡ Ieee.toBits binary32 x ⌝ }
 {
-    if x != x {
-        return 0x7fc0_0000;
-    }
-    f32::to_bits(x) as u64
+    rounding::bits_of_f32(x) as u64
 }
 
 fn float(value: PgnValue) -> RawOf

@@ -191,15 +191,11 @@ fn clock(resolution: Resolution, n: u32, raw: u64) -> PgnValue
     }
 }
 
-// The f32 with these bits. A NaN's bits cannot be made into a float, so every NaN pattern is the NaN.
+// The f32 with these bits.
 fn float_of(raw: u64) -> f32
     ensures { λ r. ⌜ r ≡ Ieee.ofBits binary32 (raw % 2 ^ 32) ⌝ }
 {
-    let b = (raw % 0x1_0000_0000) as u32;
-    if b % 0x8000_0000 > 0x7f80_0000 {
-        return 0.0 / 0.0;
-    }
-    f32::from_bits(b)
+    rounding::f32_of_bits((raw % 0x1_0000_0000) as u32)
 }
 
 // The value of a raw: as many of its low bits as the field is wide, at most 64.

@@ -2,6 +2,7 @@
 pub mod HalfEven
 pub mod Packing
 pub mod Fields
+pub mod Nans
 -- The functions' laws.
 pub mod WholeNumbers
 pub mod Signs

@@ -9,6 +9,7 @@ mod formats;
 mod half_even;
 mod integers;
 mod layout;
+mod patterns;
 mod truncation;
 
 pub use crate::formats::narrow;
@@ -17,6 +18,10 @@ pub use crate::integers::nearest_i64_to_f32;
 pub use crate::integers::nearest_i64_to_f64;
 pub use crate::integers::nearest_u64_to_f32;
 pub use crate::integers::nearest_u64_to_f64;
+pub use crate::patterns::bits_of_f32;
+pub use crate::patterns::bits_of_f64;
+pub use crate::patterns::f32_of_bits;
+pub use crate::patterns::f64_of_bits;
 pub use crate::truncation::half_away;
 pub use crate::truncation::truncated_bits;
 

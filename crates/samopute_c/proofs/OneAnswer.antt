@@ -14,6 +14,8 @@ use Rattle.samopute_c.proofs.writing.samopute_write_u16.Reads as write-
 use Rattle.samopute_c.proofs.writing.samopute_write_u8.Reads as write-u8
 use Rattle.samopute_c.proofs.writing.samopute_write_advance.Reads as write-advance
 use Rattle.samopute_c.proofs.writing.samopute_write_slice.Reads as write-slice
+use Rattle.samopute_c.proofs.scaling.samopute_scale.Reads as scale
+use Rattle.samopute_c.proofs.scaling.samopute_raw_of.Reads as raw-of
 use Rattle.samopute_c.proofs.samopute_bits_remaining.Reads as bits-remaining
 
 one-bits-remaining : Fixes bits-remaining.Post (λ κs x s. x)
@@ -112,3 +114,17 @@ told-write-slice = fixed (λ κs a x s p. p .0 .1)
 
 same-write-slice : Fixes write-slice.Post (λ κs x s. now (s .0))
 same-write-slice = fixed (λ κs a x s p. p .1)
+
+-- Calls on numbers: the code or the status, and the lent `answer` at exit.
+
+one-scale : Fixes scale.Post (λ κs x s. x)
+one-scale = fixed (λ κs a x s p. p .0)
+
+told-scale : Fixes scale.Post (λ κs x s. now (s .1 .1 .1 .1 .1 .1 .0))
+told-scale = fixed (λ κs a x s p. p .1)
+
+one-raw-of : Fixes raw-of.Post (λ κs x s. x)
+one-raw-of = fixed (λ κs a x s p. p .0)
+
+told-raw-of : Fixes raw-of.Post (λ κs x s. now (s .1 .1 .1 .1 .1 .1 .1 .0))
+told-raw-of = fixed (λ κs a x s p. p .1)

@@ -1,10 +1,11 @@
 // The boundary to C and Rust: functions on numbers and byte slices, under plain names.
 //
-// Promise: each call takes whatever it is given and answers as the crate `bits` does, laid out as
-// specs/Answers.antt says: the status is 0 or document 01's number of the refusal; the lent `answer`
-// gets the cursor after the call, then the number read (or the start and the length of the part),
-// or what the refusal carries. No call has a `requires`. A slice is a pointer and a length, and
-// `answer` a pointer to three numbers.
+// Promise: each call takes whatever it is given and answers as the crate `bits` or `numbers` does,
+// laid out as specs/Answers.antt and specs/Values.antt say. A bit call's status is 0 or document
+// 01's number of the refusal; the lent `answer` gets the cursor after the call, then the number
+// read (or the start and the length of the part), or what the refusal carries. A field goes in as
+// five numbers and a value as two, its kind's code and 64 bits. No call has a `requires`. A slice is
+// a pointer and a length, and `answer` a pointer to three numbers.
 ghost use mathlib.Core.Path.{_≡_};
 ghost use lib.ListN.{length};
 ghost use Rattle.bits.specs.Calls.{cursorAt, remainingOf};
@@ -15,7 +16,12 @@ use bits::Cursor;
 use bits::Moved;
 
 mod reading;
+mod scaling;
+mod values;
 mod writing;
+
+pub use crate::scaling::samopute_raw_of;
+pub use crate::scaling::samopute_scale;
 
 // Lays out an accepted answer: its status is 0.
 fn tell(answer: &mut [u64; 3], at: usize, next: Cursor, a: u64, b: u64) -> u32

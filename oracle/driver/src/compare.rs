@@ -1,7 +1,8 @@
-//! The comparison. Each test is one call of one side against another, over one set of cases.
+//! The comparison of bit calls. Each test is one call of one side against another, over one set of cases.
 use crate::case::{Call, Case, Raw, hex};
 use crate::cases::{SEED, any_case, any_length, exhaustive};
 use crate::random::Random;
+use crate::report::Report;
 use crate::{carried, sides};
 
 /// Random cases of each call.
@@ -14,15 +15,14 @@ const PRINTED: usize = 300;
 /// The number of refusal 6, which only the random cases have buffers for.
 const TOO_LONG: u32 = 6;
 
-/// Runs every test and prints the outcome. True if none failed.
-pub fn run(quick: bool) -> bool {
+/// Runs every test on bit calls.
+pub fn run(quick: bool, report: &mut Report) {
     let count = if quick { QUICK } else { FULL };
     println!(
         "seed {SEED:#018X}, {} random cases",
         count * Call::ALL.len()
     );
     let mut random = Random::new(SEED);
-    let mut report = Report::default();
     report.line(
         "carried-over files against SHA256SUMS",
         carried::hashes_agree(),
@@ -31,37 +31,14 @@ pub fn run(quick: bool) -> bool {
     for call in Call::ALL {
         let mut trio = Trio::new(call, "exhaustive", false);
         exhaustive(call, &mut |case| trio.compare(case));
-        trio.report(&mut report);
+        trio.report(report);
 
         let mut trio = Trio::new(call, "random", true);
         for _ in 0..count {
             let length = any_length(&mut random);
             trio.compare(&any_case(call, length, &mut random));
         }
-        trio.report(&mut report);
-    }
-    println!("{} passed, {} failed", report.passed, report.failed);
-    report.failed == 0
-}
-
-#[derive(Default)]
-struct Report {
-    passed: usize,
-    failed: usize,
-}
-
-impl Report {
-    fn line(&mut self, name: &str, outcome: Result<String, String>) {
-        match outcome {
-            Ok(what) => {
-                self.passed += 1;
-                println!("ok {name}: {what}");
-            }
-            Err(what) => {
-                self.failed += 1;
-                println!("FAILED {name}: {what}");
-            }
-        }
+        trio.report(report);
     }
 }
 

@@ -4,27 +4,43 @@ mod carried;
 mod case;
 mod cases;
 mod compare;
+mod numbers;
 mod random;
+mod report;
 mod samopute;
 mod sample;
 mod sides;
+mod stand_ins;
 
+use report::Report;
 use std::process::ExitCode;
 
-const USAGE: &str = "usage: driver compare [--quick] | sample --cases | sample --answers | bench";
+const USAGE: &str = "usage: driver compare [--quick] | compare-numbers [--quick] \
+                     | sample --cases | sample --answers \
+                     | sample-numbers --cases | sample-numbers --answers | bench";
 
 fn main() -> ExitCode {
     let arguments: Vec<String> = std::env::args().skip(1).collect();
     let arguments: Vec<&str> = arguments.iter().map(String::as_str).collect();
     let passed = match arguments[..] {
-        ["compare"] => compare::run(false),
-        ["compare", "--quick"] => compare::run(true),
+        ["compare"] => compare_all(false),
+        ["compare", "--quick"] => compare_all(true),
+        ["compare-numbers"] => compare_numbers(false),
+        ["compare-numbers", "--quick"] => compare_numbers(true),
         ["sample", "--cases"] => {
             sample::print_cases();
             true
         }
         ["sample", "--answers"] => {
             sample::print_answers();
+            true
+        }
+        ["sample-numbers", "--cases"] => {
+            numbers::sample::print_cases();
+            true
+        }
+        ["sample-numbers", "--answers"] => {
+            numbers::sample::print_answers();
             true
         }
         ["bench"] => {
@@ -41,4 +57,20 @@ fn main() -> ExitCode {
     } else {
         ExitCode::FAILURE
     }
+}
+
+/// True if no test failed.
+fn compare_all(quick: bool) -> bool {
+    let mut report = Report::default();
+    compare::run(quick, &mut report);
+    numbers::compare::run(quick, &mut report);
+    stand_ins::run(&mut report);
+    report.close()
+}
+
+/// True if no test failed.
+fn compare_numbers(quick: bool) -> bool {
+    let mut report = Report::default();
+    numbers::compare::run(quick, &mut report);
+    report.close()
 }

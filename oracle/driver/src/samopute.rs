@@ -108,3 +108,72 @@ pub fn write_slice(buffer: &mut [u8], cursor: usize, source: &[u8], answer: &mut
 pub fn bits_remaining(buffer: &[u8], cursor: usize) -> usize {
     unsafe { c::samopute_bits_remaining(buffer.as_ptr(), buffer.len(), cursor) }
 }
+
+/// A field as the calls on numbers take it: the kinds in the order of the Rust's `FieldKind`; no mark,
+/// single or double; the resolution's bits.
+pub struct CField {
+    pub kind: u32,
+    pub width: u32,
+    pub is_signed: u32,
+    pub mark: u32,
+    pub resolution: u32,
+}
+
+mod numbers_c {
+    unsafe extern "C" {
+        pub fn samopute_scale(
+            kind: u32,
+            width: u32,
+            is_signed: u32,
+            mark: u32,
+            resolution: u32,
+            raw: u64,
+            answer: *mut super::Answer,
+        ) -> u32;
+
+        pub fn samopute_raw_of(
+            kind: u32,
+            width: u32,
+            is_signed: u32,
+            mark: u32,
+            resolution: u32,
+            value_kind: u32,
+            value: u64,
+            answer: *mut super::Answer,
+        ) -> u32;
+    }
+}
+
+/// The kind of the value; its number, whether it is not available, the elements.
+pub fn scale(f: &CField, raw: u64, answer: &mut Answer) -> u32 {
+    let call = numbers_c::samopute_scale;
+    unsafe {
+        call(
+            f.kind,
+            f.width,
+            f.is_signed,
+            f.mark,
+            f.resolution,
+            raw,
+            answer,
+        )
+    }
+}
+
+/// 0 and the raw, or the refusal.
+pub fn raw_of(f: &CField, value_kind: u32, value: u64, answer: &mut Answer) -> u32 {
+    let call = numbers_c::samopute_raw_of;
+    let (kind, width, sign) = (f.kind, f.width, f.is_signed);
+    unsafe {
+        call(
+            kind,
+            width,
+            sign,
+            f.mark,
+            f.resolution,
+            value_kind,
+            value,
+            answer,
+        )
+    }
+}

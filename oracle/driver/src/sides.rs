@@ -36,7 +36,7 @@ pub fn model(case: &Case, buffer: &mut [u8]) -> Raw {
 }
 
 /// What the values hold before a call of ours: one that is not filled in shows up.
-const UNSET: u64 = 0x5A5A_5A5A_5A5A_5A5A;
+pub const UNSET: u64 = 0x5A5A_5A5A_5A5A_5A5A;
 
 /// The answer of the library under test.
 pub fn ours(case: &Case, buffer: &mut [u8]) -> Raw {

@@ -6,7 +6,7 @@ use lib.Ieee.Compare.{differs-from-itself}
 use lib.Ieee.Fits.{fits-widens, and-i}
 use denote.Floats.{passes}
 use Rattle.rounding.proofs.Fields.{is-number}
-use Rattle.numbers.proofs.Nans.{nan64}
+use Rattle.rounding.proofs.Nans.{nan64}
 use borrow.Author.Needs.{needs}
 use Rattle.numbers.proofs.scale.widen.Statement.{statement}
 use Rattle.numbers.proofs.scale.widen.Tie as tie

@@ -5,12 +5,13 @@ use mathlib.Core.Path.{_≡_, refl, sym, ap, _∙_, subst}
 use Prim.Native.Nat.{ℕ, _+_, _*_, _/_, _%_, _^_, _≤_, _<_}
 use native.Mathlib.Omega.{arith}
 use lib.Dec.{T}
-use lib.Ieee.{nan, binary32, binary64, fits, ne, div, ofBits, toBits}
+use lib.Ieee.{nan, binary32, binary64, fits, ne, ofBits, toBits}
 use lib.Ieee.Bits.{toBits-lt}
 use lib.Ieee.Compare.{differs-from-itself}
 use denote.Floats.{passes}
 use Rattle.rounding.specs.Narrowing.{narrowOf}
 use Rattle.rounding.proofs.Fields.{field64, digits64, digits64-lt, is-number, no-nan-at}
+use Rattle.rounding.proofs.Nans.{nan32}
 use Rattle.rounding.proofs.FewerDigits.{any, pattern-le}
 use Rattle.rounding.proofs.formats.narrow.Statement.{statement}
 use Rattle.rounding.proofs.formats.narrow.Tie as tie
@@ -18,8 +19,8 @@ use Rattle.rounding.proofs.formats.narrow.Tie as tie
 held : (c : tie.Start) → T (fits binary64 (c .args .x))
 held c = passes (fits binary64 (c .args .x)) (c .good .0 .1)
 
-of-nan : div binary32 (ofBits binary32 0) (ofBits binary32 0) ≡ narrowOf nan
-unfolding div ofBits narrowOf
+of-nan : nan ≡ narrowOf nan
+unfolding narrowOf
 of-nan = refl
 
 -- how large the bits and the pattern are
@@ -35,7 +36,7 @@ whole : (b r : ℕ) → b < 2 ^ 64 → r ≤ 255 * 2 ^ 23 → b / 2 ^ 63 * 2 ^ 3
 whole b r h k = omega arith
 
 returns : tie.Need-returns
-returns c = of-nan ∙ ap narrowOf (sym (differs-from-itself (c .before .args .x) (passes (ne (c .before .args .x) (c .before .args .x)) (c .if1 .taken))))
+returns c = nan32 ∙ of-nan ∙ ap narrowOf (sym (differs-from-itself (c .before .args .x) (passes (ne (c .before .args .x) (c .before .args .x)) (c .if1 .taken))))
 
 float-to-bits-b : tie.Need-float-to-bits-b
 float-to-bits-b c = is-number (c .before .args .x) (c .if1 .left)

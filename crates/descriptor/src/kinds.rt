@@ -1,0 +1,44 @@
+// Kinds and resolutions by number, for callers that have no enums.
+ghost use mathlib.Core.Path.{_≡_};
+ghost use Rattle.descriptor.specs.Kinds.{kindOf, resolutionOf};
+use crate::FieldKind;
+use crate::Resolution;
+
+// The kind with this code: its place in the declaration.
+pub fn kind_of(code: u32) -> FieldKind
+    ensures { λ r. ⌜ r ≡ kindOf code ⌝ }
+{
+    match code {
+        0 => FieldKind::Number,
+        1 => FieldKind::Float,
+        2 => FieldKind::Lookup,
+        3 => FieldKind::IndirectLookup,
+        4 => FieldKind::BitLookup,
+        5 => FieldKind::Pgn,
+        6 => FieldKind::Date,
+        7 => FieldKind::Time,
+        8 => FieldKind::Duration,
+        9 => FieldKind::Mmsi,
+        10 => FieldKind::Decimal,
+        11 => FieldKind::StringFix,
+        12 => FieldKind::StringLz,
+        13 => FieldKind::StringLau,
+        14 => FieldKind::Binary,
+        15 => FieldKind::Reserved,
+        16 => FieldKind::Spare,
+        17 => FieldKind::IsoName,
+        _ => FieldKind::Unimplemented,
+    }
+}
+
+// The resolution with this mark and these bits: 1 is single, 2 double, any other none.
+pub fn resolution_of(mark: u32, bits: u32) -> Resolution
+    ensures { λ r. ⌜ r ≡ resolutionOf mark bits ⌝ }
+{
+    let factor = rounding::f32_of_bits(bits);
+    match mark {
+        1 => Resolution::Single(factor),
+        2 => Resolution::Double(factor),
+        _ => Resolution::Unscaled,
+    }
+}
