@@ -127,12 +127,9 @@ impl Sides {
     }
 
     fn report(self, report: &mut Report) {
-        if cfg!(numbers) {
-            for test in [self.ours_standin, self.ours_model, self.ours_rust] {
-                report.line(&test.name, test.outcome());
-            }
-        }
-        for test in [self.model_standin, self.model_rust] {
+        let ours = [self.ours_standin, self.ours_model, self.ours_rust];
+        let others = [self.model_standin, self.model_rust];
+        for test in ours.into_iter().chain(others) {
             report.line(&test.name, test.outcome());
         }
     }
