@@ -2,6 +2,7 @@
 -- as the source states it, `Post`. Assumes nothing.
 use denote.Ref.{now}
 use Rattle.one_answer.proofs.Fixes.{Fixes, fixed}
+use Rattle.samopute_c.proofs.checking.samopute_check.Reads as check
 use Rattle.samopute_c.proofs.reading.samopute_read_u64.Reads as read-u64
 use Rattle.samopute_c.proofs.reading.samopute_read_u32.Reads as read-u32
 use Rattle.samopute_c.proofs.reading.samopute_read_u16.Reads as read-u16
@@ -128,3 +129,11 @@ one-raw-of = fixed (λ κs a x s p. p .0)
 
 told-raw-of : Fixes raw-of.Post (λ κs x s. now (s .1 .1 .1 .1 .1 .1 .1 .0))
 told-raw-of = fixed (λ κs a x s p. p .1)
+
+-- The table check: the status, and the lent `answer`.
+
+one-check : Fixes check.Post (λ κs x s. x)
+one-check = fixed (λ κs a x s p. p .0)
+
+told-check : Fixes check.Post (λ κs x s. now (s .1 .0))
+told-check = fixed (λ κs a x s p. p .1)

@@ -15,11 +15,13 @@ use bits::BitRefusal;
 use bits::Cursor;
 use bits::Moved;
 
+mod checking;
 mod reading;
 mod scaling;
 mod values;
 mod writing;
 
+pub use crate::checking::samopute_check;
 pub use crate::scaling::samopute_raw_of;
 pub use crate::scaling::samopute_scale;
 

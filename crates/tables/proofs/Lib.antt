@@ -1,0 +1,4 @@
+pub mod Missing
+pub mod Searches
+pub mod Chain
+pub mod OneAnswer

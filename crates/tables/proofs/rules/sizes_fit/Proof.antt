@@ -1,0 +1,78 @@
+-- `tables::rules::sizes_fit` meets its contract: by the tests. Assumes nothing.
+use mathlib.Core.Path.{_≡_, refl, sym, ap, ap₂, _∙_, subst}
+use mathlib.Core.Bool.{Bool, true, false, not, _&&_, _||_}
+use Prim.Native.Nat.{ℕ, suc, _+_, _-_, _*_, _≤_, _<_}
+use native.Mathlib.Omega.{arith}
+use denote.Ref.{now}
+use lib.Dec.{leb, eqb}
+use borrow.Author.Tests.{le-leb, lt-leb}
+use Rattle.tables.specs.Table.{Table, tableOf}
+use Rattle.tables.specs.Rules.{within}
+use Rattle.tables.specs.Check.{sizesFit, lengthFits}
+use borrow.Author.Needs.{needs}
+use Rattle.tables.proofs.rules.sizes_fit.Statement.{statement}
+use Rattle.tables.proofs.rules.sizes_fit.Tie as tie
+
+-- the test of the number of fields, over the table
+between : (b : tie.After-is-between) {x : Bool} → b .is-between .result ≡ x → within 1 64 (tableOf (now (b .before .before .before .args .words)) .count) ≡ x
+between b e = sym (ap (within 1 64) (b .before .field-count .ensures)) ∙ sym (b .is-between .ensures) ∙ e
+
+field-count-requires : tie.Need-field-count-requires
+field-count-requires c κs = search needs
+
+is-between-requires : tie.Need-is-between-requires
+is-between-requires c κs = search needs
+
+set-count-requires : tie.Need-set-count-requires
+set-count-requires c κs = search needs
+
+length-of-requires : tie.Need-length-of-requires
+length-of-requires c κs = search needs
+
+minimum-of-requires : tie.Need-minimum-of-requires
+minimum-of-requires c κs = search needs
+
+lengths-fit-requires : tie.Need-lengths-fit-requires
+lengths-fit-requires c κs = search needs
+
+returns : tie.Need-returns
+returns c =
+    let m = c .before in
+    let k = m .before .before .before in
+    let b = k .before .before in
+    let n = b .before in
+    let t = tableOf (now (n .before .before .args .words)) in
+    c .lengths-fit .ensures
+    ∙ ap₂ (λ (x y : ℕ). lengthFits x && (lengthFits y && (eqb x 0 || leb y x))) (m .before .length-of .ensures) (m .minimum-of .ensures)
+    ∙ sym (ap₂ (λ (x y : Bool). x && (y && (lengthFits (t .length) && (lengthFits (t .minimum) && (eqb (t .length) 0 || leb (t .minimum) (t .length))))))
+    (between b (k .before .if1 .taken)) (le-leb (t .sets) 4 (subst (λ (x : ℕ). x ≤ 4) (k .set-count .ensures) (m .before .before .if2 .taken))))
+
+returns-2 : tie.Need-returns-2
+returns-2 c =
+    let k = c .before in
+    let b = k .before .before in
+    let n = b .before in
+    let t = tableOf (now (n .before .before .args .words)) in
+    sym (ap₂ (λ (x y : Bool). x && (y && (lengthFits (t .length) && (lengthFits (t .minimum) && (eqb (t .length) 0 || leb (t .minimum) (t .length))))))
+    (between b (k .before .if1 .taken)) (lt-leb (t .sets) 4 (subst (λ (x : ℕ). 4 < x) (k .set-count .ensures) (c .if2 .left))))
+
+returns-3 : tie.Need-returns-3
+returns-3 c =
+    let b = c .before in
+    let n = b .before in
+    let t = tableOf (now (n .before .before .args .words)) in
+    sym (ap (λ (x : Bool). x && (leb (t .sets) 4 && (lengthFits (t .length) && (lengthFits (t .minimum) && (eqb (t .length) 0 || leb (t .minimum) (t .length)))))) (between b (c .if1 .left)))
+
+pub sizes-fit-spec : {M : Type 1} → statement M
+sizes-fit-spec =
+    tie.close
+    (tie.spec
+    field-count-requires
+    is-between-requires
+    set-count-requires
+    length-of-requires
+    minimum-of-requires
+    lengths-fit-requires
+    returns
+    returns-2
+    returns-3)
