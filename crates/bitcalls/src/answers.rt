@@ -1,32 +1,11 @@
-// The parts that answers are made of. As in `digits`, each function asks for the room of its longest
+// The parts that answers are made of. As in `textio`, each function asks for the room of its longest
 // text and answers where the text ends.
 ghost use Prim.Native.Nat.{_+_, _≤_};
 ghost use lib.ListN.{length};
-use crate::digits::put;
-use crate::digits::put_bytes;
-use crate::digits::put_decimal;
-use crate::digits::put_hex;
 use bits::BitRefusal;
-
-// The line is no call: refusal 14, which carries nothing.
-pub(crate) fn put_malformed(out: &mut [u8], at: usize) -> usize
-    requires { ⌜ at + 4 ≤ length (now out) ⌝ }
-    ensures { λ r. ⌜ r ≤ at + 4 ⌝ }
-{
-    let a = put(out, at, b'F');
-    let b = put(out, a, b' ');
-    let c = put(out, b, b'1');
-    put(out, c, b'4')
-}
-
-// A space and n in decimal.
-pub(crate) fn put_number(out: &mut [u8], at: usize, n: usize) -> usize
-    requires { ⌜ at + 21 ≤ length (now out) ⌝ }
-    ensures { λ r. ⌜ r ≤ at + 21 ⌝ }
-{
-    let a = put(out, at, b' ');
-    put_decimal(out, a, n)
-}
+use textio::put;
+use textio::put_bytes;
+use textio::put_number;
 
 // A call was accepted: the cursor after it.
 pub(crate) fn put_ok(out: &mut [u8], at: usize, cursor: usize) -> usize
@@ -36,15 +15,6 @@ pub(crate) fn put_ok(out: &mut [u8], at: usize, cursor: usize) -> usize
     let a = put(out, at, b'o');
     let b = put(out, a, b'k');
     put_number(out, b, cursor)
-}
-
-// A space and the number that was read.
-pub(crate) fn put_value(out: &mut [u8], at: usize, v: u64) -> usize
-    requires { ⌜ at + 17 ≤ length (now out) ⌝ }
-    ensures { λ r. ⌜ r ≤ at + 17 ⌝ }
-{
-    let a = put(out, at, b' ');
-    put_hex(out, a, v)
 }
 
 // A space and the bytes of a part.

@@ -1,13 +1,9 @@
 // The calls that read, and their answers. Each asks for room for the longest answer of all.
 ghost use Prim.Native.Nat.{_+_, _≤_};
 ghost use lib.ListN.{length};
-use crate::answers::put_malformed;
-use crate::answers::put_number;
 use crate::answers::put_ok;
 use crate::answers::put_part;
 use crate::answers::put_refusal;
-use crate::answers::put_value;
-use crate::digits::wide;
 use crate::names::Width;
 use bits::ByteCount;
 use bits::Cursor;
@@ -17,6 +13,10 @@ use bits::ReadU8;
 use bits::ReadU16;
 use bits::ReadU32;
 use bits::ReadU64;
+use textio::put_malformed;
+use textio::put_number;
+use textio::put_value;
+use textio::wide;
 
 fn of32(x: u32) -> u64 {
     x as u64

@@ -1,14 +1,13 @@
 // A line's fields, and which call they go to. A line that lacks the form is answered as malformed.
 ghost use Prim.Native.Nat.{_+_, _≤_};
 ghost use lib.ListN.{length};
-use crate::answers::put_malformed;
-use crate::fields;
 use crate::names;
 use crate::names::Call;
 use crate::reads;
 use crate::writes;
 use bits::BitPos;
 use bits::Cursor;
+use textio::put_malformed;
 
 // The four fields that every line has. The buffer's bytes are `len`; its field ends at `end`.
 struct Head {
@@ -37,26 +36,26 @@ fn head_of(s: &[u8], buffer: &mut [u8]) -> Head
     requires { ⌜ 256 ≤ length (now buffer) ⌝ }
     ensures { λ r. ⌜ (r .len ≤ 256) × (r .end ≤ length (now (s .entry))) ⌝ }
 {
-    let a = fields::field_end(s, 0);
+    let a = textio::field_end(s, 0);
     if a == s.len() {
         return no_head();
     }
     let after_a = a + 1;
-    let b = fields::field_end(s, after_a);
+    let b = textio::field_end(s, after_a);
     if b == s.len() {
         return no_head();
     }
     let after_b = b + 1;
-    let c = fields::field_end(s, after_b);
+    let c = textio::field_end(s, after_b);
     if c == s.len() {
         return no_head();
     }
     let after_c = c + 1;
-    let end = fields::field_end(s, after_c);
+    let end = textio::field_end(s, after_c);
     let call = names::call_of(&s[0..a]);
-    let cursor = fields::decimal(&s[after_a..b]);
-    let count = fields::decimal(&s[after_b..c]);
-    let run = fields::bytes(&s[after_c..end], buffer);
+    let cursor = textio::decimal(&s[after_a..b]);
+    let count = textio::decimal(&s[after_b..c]);
+    let run = textio::bytes(&s[after_c..end], buffer);
     Head {
         good: cursor.good & count.good & run.good,
         call,

@@ -3,14 +3,13 @@
 ghost use Prim.Native.Nat.{_+_, _≤_};
 ghost use lib.ListN.{length};
 use crate::answers::put_buffer;
-use crate::answers::put_malformed;
 use crate::answers::put_ok;
 use crate::answers::put_refusal;
-use crate::fields;
 use crate::names;
 use crate::names::Width;
 use bits::Cursor;
 use bits::Moved;
+use textio::put_malformed;
 
 // The low bits of v: v itself where `names::most` allows it.
 fn low32(v: u64) -> u32 {
@@ -60,7 +59,7 @@ pub(crate) fn write_number(
     requires { ⌜ (length (now s) ≤ 256) × (at + 1000 ≤ length (now out)) ⌝ }
     ensures { λ r. ⌜ r ≤ at + 1000 ⌝ }
 {
-    let value = fields::hex(text);
+    let value = textio::hex(text);
     let v = value.value;
     if !value.good {
         return put_malformed(out, at);
@@ -95,7 +94,7 @@ pub(crate) fn write_slice(
     ensures { λ r. ⌜ r ≤ at + 1000 ⌝ }
 {
     let mut source = [0u8; 256];
-    let run = fields::bytes(text, &mut source);
+    let run = textio::bytes(text, &mut source);
     let n = run.len;
     if !run.good {
         return put_malformed(out, at);

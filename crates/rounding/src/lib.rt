@@ -4,7 +4,8 @@
 // words of specs/ and of the logic's account of IEEE 754. Rounding is to nearest, ties to even, and
 // done once. proofs/Laws.antt says how far a rounded whole number is off: not at all, or by the
 // paper's bound. No call has a `requires`, and nothing is assumed.
-// A NaN that is answered has no particular sign or payload.
+// A NaN that is answered has no particular sign or payload; its bits, where they are asked for, are
+// those of the one NaN that the logic has.
 mod formats;
 mod half_even;
 mod integers;

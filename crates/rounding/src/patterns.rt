@@ -24,6 +24,7 @@ pub fn f64_of_bits(b: u64) -> f64
     f64::from_bits(b)
 }
 
+// The bits of an `f32`.
 pub fn bits_of_f32(x: f32) -> u32
     ensures { λ r. ⌜ r ≡ Ieee.toBits binary32 x ⌝ }
 {
@@ -33,6 +34,7 @@ pub fn bits_of_f32(x: f32) -> u32
     f32::to_bits(x)
 }
 
+// The bits of an `f64`.
 pub fn bits_of_f64(x: f64) -> u64
     ensures { λ r. ⌜ r ≡ Ieee.toBits binary64 x ⌝ }
 {

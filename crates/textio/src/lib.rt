@@ -1,0 +1,40 @@
+// Text for programs that answer lines: reading lines and their fields, and putting answers.
+//
+// Promise: any bytes may come, and any number of them; the memory used stays the same. A function that
+// puts text asks for the room that its longest text takes, and says where the text ends. Which text it
+// is no contract says, as none can say what is read or written.
+mod digits;
+mod fields;
+mod steps;
+
+pub use crate::digits::put;
+pub use crate::digits::put_bytes;
+pub use crate::digits::put_hex;
+pub use crate::digits::put_malformed;
+pub use crate::digits::put_number;
+pub use crate::digits::put_text;
+pub use crate::digits::put_value;
+pub use crate::digits::wide;
+pub use crate::fields::Number;
+pub use crate::fields::Run;
+pub use crate::fields::bytes;
+pub use crate::fields::decimal;
+pub use crate::fields::field_end;
+pub use crate::fields::hex;
+pub use crate::steps::finish;
+pub use crate::steps::next_line;
+pub use crate::steps::start;
+pub use crate::steps::step;
+
+// Where a program stands between two steps: how many bytes of the line are held; which part of the
+// input is not taken yet; how many bytes of answers wait to be written. `is_whole`: the line is to be
+// answered. `is_open` is false once the input has ended or the output has failed.
+pub struct Lines {
+    pub held: usize,
+    pub from: usize,
+    pub to: usize,
+    pub waiting: usize,
+    pub is_long: bool,
+    pub is_whole: bool,
+    pub is_open: bool,
+}

@@ -1,0 +1,142 @@
+// Lines of standard input, and what is answered on standard output. A program lends three buffers: for
+// the input as it is read, for the line that is held, and for the answers that wait to be written.
+ghost use Prim.Native.Nat.{_<_, _≤_};
+ghost use mathlib.Core.Path.{_≡_};
+ghost use lib.ListN.{length};
+ghost use Rattle.textio.specs.Bounds.{Within};
+use crate::Lines;
+use crate::digits::put;
+use libc::STDIN_FILENO;
+use libc::STDOUT_FILENO;
+
+// A line of more bytes is too long.
+const LINE_MAX: usize = 1024;
+
+// More answers than this are written at once: else there is room for one more, of 1,024 bytes.
+const OUT_FULL: usize = 64512;
+
+pub fn start() -> Lines
+    ensures { λ r. ⌜ Within r ⌝ }
+{
+    Lines {
+        held: 0,
+        from: 0,
+        to: 0,
+        waiting: 0,
+        is_long: false,
+        is_whole: false,
+        is_open: true,
+    }
+}
+
+// One step: takes what was read to the end of the line, or of what was read; or reads anew.
+pub fn step(input: &mut [u8], line: &mut [u8], at: Lines) -> Lines
+    requires { ⌜ (length (now input) ≡ 65536) × (length (now line) ≡ 1024) ⌝ }
+    requires { ⌜ Within at ⌝ }
+    ensures { λ r. ⌜ Within r ⌝ }
+{
+    if at.from < at.to {
+        return take(input, line, at);
+    }
+    read(input, at)
+}
+
+// Reads once. The input has ended where nothing came; then a line with no newline counts if it is not
+// empty.
+fn read(input: &mut [u8], at: Lines) -> Lines
+    requires { ⌜ length (now input) ≡ 65536 ⌝ }
+    requires { ⌜ Within at ⌝ }
+    ensures { λ r. ⌜ Within r ⌝ }
+{
+    let got = libc::read(STDIN_FILENO, &mut *input);
+    let n = io::count(got, input);
+    let mut next = at;
+    next.from = 0;
+    next.to = n;
+    next.is_open = n != 0;
+    if n == 0 && at.held != 0 {
+        return ended(next);
+    }
+    next
+}
+
+// Takes bytes into the line: a newline ends it.
+fn take(input: &[u8], line: &mut [u8], at: Lines) -> Lines
+    requires { ⌜ (length (now input) ≡ 65536) × (length (now line) ≡ 1024) ⌝ }
+    requires { ⌜ Within at ⌝ }
+    ensures { λ r. ⌜ Within r ⌝ }
+{
+    let to = at.to;
+    let mut next = at;
+    while next.from < to {
+        let i = next.from;
+        let b = input[i];
+        next.from = i + 1;
+        if b == b'\n' {
+            return ended(next);
+        }
+        next = hold(line, next, b);
+    }
+    next
+}
+
+// One more byte of the line, unless it is too long.
+fn hold(line: &mut [u8], at: Lines, b: u8) -> Lines
+    requires { ⌜ length (now line) ≡ 1024 ⌝ }
+    requires { ⌜ Within at ⌝ }
+    ensures { λ r. ⌜ (Within r) × (r .from ≡ at .from) × (r .to ≡ at .to) ⌝ }
+{
+    let held = at.held;
+    let mut next = at;
+    if held < LINE_MAX {
+        line[held] = b;
+        next.held = held + 1;
+        return next;
+    }
+    next.is_long = true;
+    next
+}
+
+// The line is whole. One that is too long is handed on as an empty one, which is no call either.
+fn ended(at: Lines) -> Lines
+    requires { ⌜ Within at ⌝ }
+    ensures { λ r. ⌜ Within r ⌝ }
+{
+    let mut next = at;
+    next.is_whole = true;
+    if at.is_long {
+        next.held = 0;
+        return next;
+    }
+    next
+}
+
+// After a line's answer, which ends at `to`: the newline. Where there is no room for one more answer,
+// what waits is written; where that fails no line follows.
+pub fn next_line(out: &mut [u8], to: usize, at: Lines) -> Lines
+    requires { ⌜ (length (now out) ≡ 65536) × (to < 65536) ⌝ }
+    requires { ⌜ Within at ⌝ }
+    ensures { λ r. ⌜ Within r ⌝ }
+{
+    let n = put(out, to, b'\n');
+    let mut next = at;
+    next.held = 0;
+    next.is_long = false;
+    next.is_whole = false;
+    if n <= OUT_FULL {
+        next.waiting = n;
+        return next;
+    }
+    next.waiting = 0;
+    next.is_open = io::write_all(STDOUT_FILENO, &out[0..n]) && at.is_open;
+    next
+}
+
+// Writes what waits.
+pub fn finish(out: &[u8], at: Lines)
+    requires { ⌜ length (now out) ≡ 65536 ⌝ }
+    requires { ⌜ Within at ⌝ }
+{
+    let waiting = at.waiting;
+    io::write_all(STDOUT_FILENO, &out[0..waiting]);
+}
