@@ -11,13 +11,16 @@ mod samopute;
 mod sample;
 mod sides;
 mod stand_ins;
+mod tables;
 
 use report::Report;
 use std::process::ExitCode;
 
 const USAGE: &str = "usage: driver compare [--quick] | compare-numbers [--quick] \
+                     | compare-tables [--quick] \
                      | sample --cases | sample --answers \
-                     | sample-numbers --cases | sample-numbers --answers | bench";
+                     | sample-numbers --cases | sample-numbers --answers \
+                     | bench | bench-tables";
 
 fn main() -> ExitCode {
     let arguments: Vec<String> = std::env::args().skip(1).collect();
@@ -27,6 +30,8 @@ fn main() -> ExitCode {
         ["compare", "--quick"] => compare_all(true),
         ["compare-numbers"] => compare_numbers(false),
         ["compare-numbers", "--quick"] => compare_numbers(true),
+        ["compare-tables"] => compare_tables(false),
+        ["compare-tables", "--quick"] => compare_tables(true),
         ["sample", "--cases"] => {
             sample::print_cases();
             true
@@ -47,6 +52,10 @@ fn main() -> ExitCode {
             bench::run();
             true
         }
+        ["bench-tables"] => {
+            tables::bench::run();
+            true
+        }
         _ => {
             eprintln!("{USAGE}");
             return ExitCode::from(2);
@@ -65,6 +74,7 @@ fn compare_all(quick: bool) -> bool {
     compare::run(quick, &mut report);
     numbers::compare::run(quick, &mut report);
     stand_ins::run(&mut report);
+    tables::compare::run(quick, &mut report);
     report.close()
 }
 
@@ -72,5 +82,12 @@ fn compare_all(quick: bool) -> bool {
 fn compare_numbers(quick: bool) -> bool {
     let mut report = Report::default();
     numbers::compare::run(quick, &mut report);
+    report.close()
+}
+
+/// True if no test failed.
+fn compare_tables(quick: bool) -> bool {
+    let mut report = Report::default();
+    tables::compare::run(quick, &mut report);
     report.close()
 }

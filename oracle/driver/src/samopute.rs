@@ -177,3 +177,14 @@ pub fn raw_of(f: &CField, value_kind: u32, value: u64, answer: &mut Answer) -> u
         )
     }
 }
+
+mod tables_c {
+    unsafe extern "C" {
+        pub fn samopute_check(words: *const u64, count: usize, answer: *mut super::Answer) -> u32;
+    }
+}
+
+/// 0, or 8; the rule's number from 1 on, the field or the set, 0.
+pub fn check(words: &[u64], answer: &mut Answer) -> u32 {
+    unsafe { tables_c::samopute_check(words.as_ptr(), words.len(), answer) }
+}

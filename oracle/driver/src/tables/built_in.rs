@@ -1,0 +1,99 @@
+//! Fields, sets and tables written out, and two of the built-in tables.
+use model::numbers::{Kind, Mark, Scale};
+use model::tables::{Field, Set, Table};
+
+pub fn field(kind: Kind, width: u32) -> Field {
+    Field {
+        width: Some(width),
+        ..bare(kind)
+    }
+}
+
+/// A field without a width.
+pub fn bare(kind: Kind) -> Field {
+    Field {
+        kind,
+        width: None,
+        signed: false,
+        scale: None,
+    }
+}
+
+pub fn number(width: u32) -> Field {
+    field(Kind::Number, width)
+}
+
+pub fn signed(field: Field) -> Field {
+    Field {
+        signed: true,
+        ..field
+    }
+}
+
+pub fn single(field: Field, resolution: f32) -> Field {
+    let mark = Mark::Single;
+    let scale = Some(Scale { mark, resolution });
+    Field { scale, ..field }
+}
+
+pub fn double(field: Field, resolution: f32) -> Field {
+    let mark = Mark::Double;
+    let scale = Some(Scale { mark, resolution });
+    Field { scale, ..field }
+}
+
+pub fn set(start: usize, size: usize, counter: usize, maximum: usize) -> Set {
+    Set {
+        start,
+        size,
+        counter,
+        maximum,
+    }
+}
+
+pub fn table(fields: &[Field], sets: &[Set]) -> Table {
+    Table {
+        fields: fields.to_vec(),
+        sets: sets.to_vec(),
+        length: None,
+        minimum: None,
+    }
+}
+
+/// COG and SOG: document 01.
+pub fn table_129026() -> Table {
+    let fields = [
+        number(8),
+        field(Kind::Lookup, 2),
+        field(Kind::Reserved, 6),
+        single(number(16), 0.0001),
+        single(number(16), 0.01),
+        field(Kind::Reserved, 16),
+    ];
+    table(&fields, &[])
+}
+
+/// A position with its reference stations.
+pub fn table_129029() -> Table {
+    let fields = [
+        number(8),
+        field(Kind::Date, 16),
+        double(field(Kind::Time, 32), 0.0001),
+        double(signed(number(64)), 1e-16),
+        double(signed(number(64)), 1e-16),
+        double(signed(number(64)), 1e-6),
+        field(Kind::Lookup, 4),
+        field(Kind::Lookup, 4),
+        field(Kind::Lookup, 2),
+        field(Kind::Reserved, 6),
+        number(8),
+        single(signed(number(16)), 0.01),
+        single(signed(number(16)), 0.01),
+        double(signed(number(32)), 0.01),
+        number(8),
+        field(Kind::Lookup, 4),
+        number(12),
+        single(field(Kind::Duration, 16), 0.01),
+    ];
+    table(&fields, &[set(15, 3, 14, 45)])
+}
