@@ -1,7 +1,8 @@
 // The built-in tables: PGN 129025, 129026, 129029 and 130900, in the words that `tables` reads.
 //
-// Promise: each function answers the words that specs/Tables.antt lists, and proofs/Accepted.antt
-// computes that the table check accepts them. None of the four has a length or a minimum.
+// Promise: each table is the words that specs/Tables.antt lists, which the contract of the function of
+// its name says, and proofs/Accepted.antt computes that the table check accepts them. None of the four
+// has a length or a minimum.
 ghost use mathlib.Core.Path.{_≡_};
 ghost use Rattle.messages.specs.Tables.{words129025, words129026, words129029, words130900};
 
@@ -50,85 +51,93 @@ const COUNTER: u64 = 0x1_0000_0000;
 const MAXIMUM: u64 = 0x1_0000_0000_0000;
 
 // Position: 2 fields.
+pub const TABLE_129025: [u64; 3] = [
+    2,
+    // 0 latitude, 1 longitude
+    NUMBER + 32 * BIT + SIGNED + DOUBLE_1E_7,
+    NUMBER + 32 * BIT + SIGNED + DOUBLE_1E_7,
+];
+
 pub fn table_129025() -> [u64; 3]
     ensures { λ r. ⌜ r ≡ words129025 ⌝ }
 {
-    [
-        2,
-        // 0 latitude, 1 longitude
-        NUMBER + 32 * BIT + SIGNED + DOUBLE_1E_7,
-        NUMBER + 32 * BIT + SIGNED + DOUBLE_1E_7,
-    ]
+    TABLE_129025
 }
 
 // Course and speed over ground: 6 fields.
+pub const TABLE_129026: [u64; 7] = [
+    6,
+    // 0 SID, 1 COG reference, 2 Reserved
+    NUMBER + 8 * BIT,
+    LOOKUP + 2 * BIT,
+    RESERVED + 6 * BIT,
+    // 3 COG, 4 SOG, 5 Reserved
+    NUMBER + 16 * BIT + SINGLE_0_0001,
+    NUMBER + 16 * BIT + SINGLE_0_01,
+    RESERVED + 16 * BIT,
+];
+
 pub fn table_129026() -> [u64; 7]
     ensures { λ r. ⌜ r ≡ words129026 ⌝ }
 {
-    [
-        6,
-        // 0 SID, 1 COG reference, 2 Reserved
-        NUMBER + 8 * BIT,
-        LOOKUP + 2 * BIT,
-        RESERVED + 6 * BIT,
-        // 3 COG, 4 SOG, 5 Reserved
-        NUMBER + 16 * BIT + SINGLE_0_0001,
-        NUMBER + 16 * BIT + SINGLE_0_01,
-        RESERVED + 16 * BIT,
-    ]
+    TABLE_129026
 }
 
 // Position by satellite: 15 fields, then a set of 3 for each reference station. The last of the 15
 // says how many stations follow.
+pub const TABLE_129029: [u64; 20] = [
+    18 + SETS,
+    // 0 SID, 1 date, 2 time
+    NUMBER + 8 * BIT,
+    DATE + 16 * BIT,
+    TIME + 32 * BIT + DOUBLE_0_0001,
+    // 3 latitude, 4 longitude, 5 altitude
+    NUMBER + 64 * BIT + SIGNED + DOUBLE_1E_16,
+    NUMBER + 64 * BIT + SIGNED + DOUBLE_1E_16,
+    NUMBER + 64 * BIT + SIGNED + DOUBLE_1E_6,
+    // 6 type, 7 method, 8 integrity, 9 Reserved
+    LOOKUP + 4 * BIT,
+    LOOKUP + 4 * BIT,
+    LOOKUP + 2 * BIT,
+    RESERVED + 6 * BIT,
+    // 10 satellites, 11 HDOP, 12 PDOP, 13 geoidal separation
+    NUMBER + 8 * BIT,
+    NUMBER + 16 * BIT + SIGNED + SINGLE_0_01,
+    NUMBER + 16 * BIT + SIGNED + SINGLE_0_01,
+    NUMBER + 32 * BIT + SIGNED + DOUBLE_0_01,
+    // 14 stations
+    NUMBER + 8 * BIT,
+    // of each station: 15 type, 16 id, 17 age of its corrections
+    LOOKUP + 4 * BIT,
+    NUMBER + 12 * BIT,
+    DURATION + 16 * BIT + SINGLE_0_01,
+    // the set: from field 15 on
+    15 + 3 * SIZE + 14 * COUNTER + 45 * MAXIMUM,
+];
+
 pub fn table_129029() -> [u64; 20]
     ensures { λ r. ⌜ r ≡ words129029 ⌝ }
 {
-    [
-        18 + SETS,
-        // 0 SID, 1 date, 2 time
-        NUMBER + 8 * BIT,
-        DATE + 16 * BIT,
-        TIME + 32 * BIT + DOUBLE_0_0001,
-        // 3 latitude, 4 longitude, 5 altitude
-        NUMBER + 64 * BIT + SIGNED + DOUBLE_1E_16,
-        NUMBER + 64 * BIT + SIGNED + DOUBLE_1E_16,
-        NUMBER + 64 * BIT + SIGNED + DOUBLE_1E_6,
-        // 6 type, 7 method, 8 integrity, 9 Reserved
-        LOOKUP + 4 * BIT,
-        LOOKUP + 4 * BIT,
-        LOOKUP + 2 * BIT,
-        RESERVED + 6 * BIT,
-        // 10 satellites, 11 HDOP, 12 PDOP, 13 geoidal separation
-        NUMBER + 8 * BIT,
-        NUMBER + 16 * BIT + SIGNED + SINGLE_0_01,
-        NUMBER + 16 * BIT + SIGNED + SINGLE_0_01,
-        NUMBER + 32 * BIT + SIGNED + DOUBLE_0_01,
-        // 14 stations
-        NUMBER + 8 * BIT,
-        // of each station: 15 type, 16 id, 17 age of its corrections
-        LOOKUP + 4 * BIT,
-        NUMBER + 12 * BIT,
-        DURATION + 16 * BIT + SINGLE_0_01,
-        // the set: from field 15 on
-        15 + 3 * SIZE + 14 * COUNTER + 45 * MAXIMUM,
-    ]
+    TABLE_129029
 }
 
 // Ours, three numbers to a sample: 8 fields.
+pub const TABLE_130900: [u64; 9] = [
+    8,
+    // 0 manufacturer, 1 Reserved, 2 industry, 3 SID
+    LOOKUP + 11 * BIT,
+    RESERVED + 2 * BIT,
+    LOOKUP + 3 * BIT,
+    NUMBER + 8 * BIT,
+    // 4, 5, 6 the three numbers, 7 Reserved
+    NUMBER + 32 * BIT + SIGNED + DOUBLE_0_001,
+    NUMBER + 32 * BIT + SIGNED + DOUBLE_0_001,
+    NUMBER + 32 * BIT + SIGNED + DOUBLE_0_001,
+    RESERVED + 8 * BIT,
+];
+
 pub fn table_130900() -> [u64; 9]
     ensures { λ r. ⌜ r ≡ words130900 ⌝ }
 {
-    [
-        8,
-        // 0 manufacturer, 1 Reserved, 2 industry, 3 SID
-        LOOKUP + 11 * BIT,
-        RESERVED + 2 * BIT,
-        LOOKUP + 3 * BIT,
-        NUMBER + 8 * BIT,
-        // 4, 5, 6 the three numbers, 7 Reserved
-        NUMBER + 32 * BIT + SIGNED + DOUBLE_0_001,
-        NUMBER + 32 * BIT + SIGNED + DOUBLE_0_001,
-        NUMBER + 32 * BIT + SIGNED + DOUBLE_0_001,
-        RESERVED + 8 * BIT,
-    ]
+    TABLE_130900
 }
