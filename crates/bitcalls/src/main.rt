@@ -18,6 +18,7 @@ mod reads;
 mod replies;
 mod writes;
 
+ghost use Prim.Native.Nat.{_≤_};
 ghost use mathlib.Core.Path.{_≡_};
 ghost use lib.ListN.{length};
 ghost use Rattle.textio.specs.Bounds.{Within};
@@ -47,9 +48,9 @@ fn run(input: &mut [u8], line: &mut [u8], out: &mut [u8])
 
 // Answers the line, if it is whole.
 fn answered(line: &[u8], out: &mut [u8], at: Lines) -> Lines
-    requires { ⌜ (length (now line) ≡ 1024) × (length (now out) ≡ 65536) ⌝ }
+    requires { ⌜ (length (now line) ≡ 1024) × (length (now out) ≡ 65536) × (at .held ≤ 1024) ⌝ }
     requires { ⌜ Within at ⌝ }
-    ensures { λ r. ⌜ Within r ⌝ }
+    ensures { λ r. ⌜ (Within r) × (r .held ≤ 1024) ⌝ }
 {
     if !at.is_whole {
         return at;

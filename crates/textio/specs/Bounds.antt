@@ -2,9 +2,8 @@
 use Prim.Native.Nat.{_≤_}
 use Rattle.textio.specs.declared.Lines.{Lines}
 
--- the numbers stay within the buffers, 1,024 bytes of a line and 65,536 of input and of answers, with room for one more answer
+-- the numbers stay within the buffers, 65,536 bytes of input and of answers, with room for one more answer
 pub record Within (at : Lines) : Type 0 where
-  pub held : at .held ≤ 1024
   pub taken : at .from ≤ at .to
   pub read : at .to ≤ 65536
   pub waiting : at .waiting ≤ 64512

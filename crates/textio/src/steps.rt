@@ -1,5 +1,6 @@
 // Lines of standard input, and what is answered on standard output. A program lends three buffers: for
-// the input as it is read, for the line that is held, and for the answers that wait to be written.
+// the input as it is read, for the line that is held, and for the answers that wait to be written. A
+// line is too long if it has more bytes than the buffer for it.
 ghost use Prim.Native.Nat.{_<_, _≤_};
 ghost use mathlib.Core.Path.{_≡_};
 ghost use lib.ListN.{length};
@@ -9,14 +10,11 @@ use crate::digits::put;
 use libc::STDIN_FILENO;
 use libc::STDOUT_FILENO;
 
-// A line of more bytes is too long.
-const LINE_MAX: usize = 1024;
-
 // More answers than this are written at once: else there is room for one more, of 1,024 bytes.
 const OUT_FULL: usize = 64512;
 
 pub fn start() -> Lines
-    ensures { λ r. ⌜ Within r ⌝ }
+    ensures { λ r. ⌜ (Within r) × (r .held ≡ 0) ⌝ }
 {
     Lines {
         held: 0,
@@ -31,9 +29,9 @@ pub fn start() -> Lines
 
 // One step: takes what was read to the end of the line, or of what was read; or reads anew.
 pub fn step(input: &mut [u8], line: &mut [u8], at: Lines) -> Lines
-    requires { ⌜ (length (now input) ≡ 65536) × (length (now line) ≡ 1024) ⌝ }
+    requires { ⌜ (length (now input) ≡ 65536) × (at .held ≤ length (now line)) ⌝ }
     requires { ⌜ Within at ⌝ }
-    ensures { λ r. ⌜ Within r ⌝ }
+    ensures { λ r. ⌜ (Within r) × (r .held ≤ length (now (line .entry))) ⌝ }
 {
     if at.from < at.to {
         return take(input, line, at);
@@ -46,7 +44,7 @@ pub fn step(input: &mut [u8], line: &mut [u8], at: Lines) -> Lines
 fn read(input: &mut [u8], at: Lines) -> Lines
     requires { ⌜ length (now input) ≡ 65536 ⌝ }
     requires { ⌜ Within at ⌝ }
-    ensures { λ r. ⌜ Within r ⌝ }
+    ensures { λ r. ⌜ (Within r) × (r .held ≤ at .held) ⌝ }
 {
     let got = libc::read(STDIN_FILENO, &mut *input);
     let n = io::count(got, input);
@@ -62,9 +60,9 @@ fn read(input: &mut [u8], at: Lines) -> Lines
 
 // Takes bytes into the line: a newline ends it.
 fn take(input: &[u8], line: &mut [u8], at: Lines) -> Lines
-    requires { ⌜ (length (now input) ≡ 65536) × (length (now line) ≡ 1024) ⌝ }
+    requires { ⌜ (length (now input) ≡ 65536) × (at .held ≤ length (now line)) ⌝ }
     requires { ⌜ Within at ⌝ }
-    ensures { λ r. ⌜ Within r ⌝ }
+    ensures { λ r. ⌜ (Within r) × (r .held ≤ length (now (line .entry))) ⌝ }
 {
     let to = at.to;
     let mut next = at;
@@ -82,13 +80,13 @@ fn take(input: &[u8], line: &mut [u8], at: Lines) -> Lines
 
 // One more byte of the line, unless it is too long.
 fn hold(line: &mut [u8], at: Lines, b: u8) -> Lines
-    requires { ⌜ length (now line) ≡ 1024 ⌝ }
+    requires { ⌜ at .held ≤ length (now line) ⌝ }
     requires { ⌜ Within at ⌝ }
-    ensures { λ r. ⌜ (Within r) × (r .from ≡ at .from) × (r .to ≡ at .to) ⌝ }
+    ensures { λ r. ⌜ (Within r) × (r .held ≤ length (now (line .entry))) × (r .from ≡ at .from) × (r .to ≡ at .to) ⌝ }
 {
     let held = at.held;
     let mut next = at;
-    if held < LINE_MAX {
+    if held < line.len() {
         line[held] = b;
         next.held = held + 1;
         return next;
@@ -100,7 +98,7 @@ fn hold(line: &mut [u8], at: Lines, b: u8) -> Lines
 // The line is whole. One that is too long is handed on as an empty one, which is no call either.
 fn ended(at: Lines) -> Lines
     requires { ⌜ Within at ⌝ }
-    ensures { λ r. ⌜ Within r ⌝ }
+    ensures { λ r. ⌜ (Within r) × (r .held ≤ at .held) ⌝ }
 {
     let mut next = at;
     next.is_whole = true;
@@ -116,7 +114,7 @@ fn ended(at: Lines) -> Lines
 pub fn next_line(out: &mut [u8], to: usize, at: Lines) -> Lines
     requires { ⌜ (length (now out) ≡ 65536) × (to < 65536) ⌝ }
     requires { ⌜ Within at ⌝ }
-    ensures { λ r. ⌜ Within r ⌝ }
+    ensures { λ r. ⌜ (Within r) × (r .held ≡ 0) ⌝ }
 {
     let n = put(out, to, b'\n');
     let mut next = at;

@@ -1,5 +1,6 @@
 -- `bitcalls::run` is safe and ends. The invariant: the buffers keep their lengths, and the state stays within them. The measure is
 -- the number of turns that are left. Assumes nothing.
+use Prim.Native.Nat.{_≤_}
 use mathlib.Core.Path.{_≡_}
 use borrow.Author.Needs.{needs}
 use lib.ListN.{length}
@@ -8,7 +9,7 @@ use Rattle.bitcalls.proofs.run.Statement.{statement}
 use Rattle.bitcalls.proofs.run.Tie as tie
 
 abbrev Inv-loop : tie.InvT-loop
-Inv-loop input₀ line₀ out₀ turns₀ at₀ input line out turns at = ((length input ≡ 65536) × (length line ≡ 1024) × (length out ≡ 65536)) × Within at
+Inv-loop input₀ line₀ out₀ turns₀ at₀ input line out turns at = ((length input ≡ 65536) × (length line ≡ 1024) × (length out ≡ 65536) × (at .held ≤ 1024)) × Within at
 
 abbrev μ-loop : tie.MeasureT-loop
 μ-loop input₀ line₀ out₀ turns₀ at₀ input line out turns at = turns

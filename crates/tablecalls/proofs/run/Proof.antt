@@ -1,22 +1,30 @@
--- `tablecalls::run` is safe and ends. The invariant is that of `take_all`. The measure is the number of turns that are left. Assumes nothing.
+-- `tablecalls::run` is safe and ends. The invariant: the buffers keep their lengths, and the state stays within them. The measure is
+-- the number of turns that are left. Assumes nothing.
 use Prim.Native.Nat.{_≤_}
 use mathlib.Core.Path.{_≡_}
 use borrow.Author.Needs.{needs}
 use lib.ListN.{length}
+use Rattle.textio.specs.Bounds.{Within}
 use Rattle.tablecalls.proofs.run.Statement.{statement}
 use Rattle.tablecalls.proofs.run.Tie as tie
 
 abbrev Inv-loop : tie.InvT-loop
-Inv-loop line₀ out₀ turns₀ state₀ line out turns state = ((length line ≡ 3399) × (length out ≡ 65536)) × ((state .held ≤ 3400) × (state .waiting ≤ 65536))
+Inv-loop input₀ line₀ out₀ turns₀ at₀ input line out turns at = ((length input ≡ 65536) × (length line ≡ 3400) × (length out ≡ 65536) × (at .held ≤ 3400)) × Within at
 
 abbrev μ-loop : tie.MeasureT-loop
-μ-loop line₀ out₀ turns₀ state₀ line out turns state = turns
+μ-loop input₀ line₀ out₀ turns₀ at₀ input line out turns at = turns
+
+start-requires : tie.Need-start-requires Inv-loop μ-loop
+start-requires c κs = search needs
 
 loop-holds : tie.Need-loop-holds Inv-loop μ-loop
 loop-holds c = search needs
 
-read-some-requires : tie.Need-read-some-requires Inv-loop μ-loop
-read-some-requires c κs = search needs
+step-requires : tie.Need-step-requires Inv-loop μ-loop
+step-requires c κs = search needs
+
+answered-requires : tie.Need-answered-requires Inv-loop μ-loop
+answered-requires c κs = search needs
 
 sub-turns : tie.Need-sub-turns Inv-loop μ-loop
 sub-turns c = search needs
@@ -36,6 +44,9 @@ same-length c = search needs
 same-length-2 : tie.Need-same-length-2 Inv-loop μ-loop
 same-length-2 c = search needs
 
+same-length-3 : tie.Need-same-length-3 Inv-loop μ-loop
+same-length-3 c = search needs
+
 returns : tie.Need-returns Inv-loop μ-loop
 returns c = search needs
 
@@ -45,12 +56,15 @@ run-spec =
     (tie.spec
     Inv-loop
     μ-loop
+    start-requires
     loop-holds
-    read-some-requires
+    step-requires
+    answered-requires
     sub-turns
     loop-less
     loop-again
     finish-requires
     same-length
     same-length-2
+    same-length-3
     returns)

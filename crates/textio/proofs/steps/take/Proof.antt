@@ -1,6 +1,6 @@
 -- `steps::take` meets its contract. The invariant: the state stays within the buffers, and its input ends where it did. The measure
 -- is what is left of the input. Assumes nothing.
-use Prim.Native.Nat.{_-_}
+use Prim.Native.Nat.{_-_, _≤_}
 use mathlib.Core.Path.{_≡_}
 use borrow.Author.Needs.{needs}
 use lib.ListN.{length}
@@ -9,7 +9,7 @@ use Rattle.textio.proofs.steps.take.Statement.{statement}
 use Rattle.textio.proofs.steps.take.Tie as tie
 
 abbrev Inv-loop : tie.InvT-loop
-Inv-loop input line₀ to next₀ line next = ((length line ≡ 1024) × (next .to ≡ to)) × Within next
+Inv-loop input line₀ to next₀ line next = ((length line ≡ length line₀) × (next .to ≡ to) × (next .held ≤ length line₀)) × Within next
 
 abbrev μ-loop : tie.MeasureT-loop
 μ-loop input line₀ to next₀ line next = to - next .from
