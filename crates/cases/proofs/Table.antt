@@ -1,4 +1,4 @@
--- The cases of document 01 that are marked *, in its order and words: each is computed from the definitions that the
+-- The cases of document 01 that are marked *, those on bits and numbers, in its order and words: each is computed from the definitions that the
 -- contracts cite. Assumes nothing.
 use mathlib.Core.Path.{_≡_, refl}
 use mathlib.Core.List.{List, [], _∷_}
