@@ -1,5 +1,5 @@
--- The cases of document 01 that are marked *, those on bits and numbers, in its order and words: each is computed from the definitions that the
--- contracts cite. Assumes nothing.
+-- The cases of document 01 that are marked *, those on bits and numbers, in its order and words: each is computed from the
+-- definitions that the contracts cite. Assumes nothing.
 use mathlib.Core.Path.{_≡_, refl}
 use mathlib.Core.List.{List, [], _∷_}
 use Prim.Native.Nat.{ℕ}
