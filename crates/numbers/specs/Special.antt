@@ -36,5 +36,8 @@ abbrev pub numberAvailabilityOf : FieldDescriptor → ℕ → Availability
 numberAvailabilityOf f raw = byRule (ruleOf (f .kind)) (bitsOf f) (f .signed) (raw % 2 ^ bitsOf f)
 
 -- "Group count: the counter's raw, 0 if all ones", for a counter of n bits
+abbrev pub meantBy : ℕ → ℕ → ℕ
+meantBy n raw = pick (eqb raw (topOf n false)) 0 raw
+
 abbrev pub elementsOf : ℕ → ℕ → ℕ
-elementsOf n raw = pick (eqb raw (topOf n false)) 0 raw
+elementsOf n raw = meantBy n (raw % 2 ^ n)

@@ -83,9 +83,10 @@ pub fn counter_elements(raw: u64, width: u32) -> u64
     ensures { λ r. ⌜ r ≡ elementsOf (min width 64) raw ⌝ }
 {
     let n = signs::least(width, 64);
+    let r = signs::low_bits(raw, n);
     let top = top_of(n, false);
-    if raw == top {
+    if r == top {
         return 0;
     }
-    raw
+    r
 }

@@ -217,8 +217,9 @@ pub fn is_available(field: &Field, raw: u64) -> bool {
     field.width < 2 || i128::from(raw) != largest
 }
 
-/// How many elements a counter's raw means: all ones is 0, at every width.
+/// How many elements a counter's raw means, by its low bits: all ones is 0, at every width.
 pub fn elements(width: u32, raw: u64) -> u64 {
+    let raw = raw & all_ones(width);
     if raw == all_ones(width) { 0 } else { raw }
 }
 
