@@ -2,6 +2,8 @@
 -- Assumes nothing.
 use Rattle.one_answer.proofs.Fixes.{Fixes, fixed}
 use Rattle.tables.proofs.checking.check.Reads as check
+use Rattle.tables.proofs.sets.group_bits.Reads as group-bits
+use Rattle.tables.proofs.sets.is_repetitive_field.Reads as is-repetitive-field
 use Rattle.tables.proofs.words.field_at.Reads as field-at
 use Rattle.tables.proofs.words.field_count.Reads as field-count
 use Rattle.tables.proofs.words.set_at.Reads as set-at
@@ -12,6 +14,12 @@ use Rattle.tables.proofs.TableRule.letter.Reads as letter
 
 one-check : Fixes check.Post (λ κs x s. x)
 one-check = fixed (λ κs a x s p. p)
+
+one-group-bits : Fixes group-bits.Post (λ κs x s. x)
+one-group-bits = fixed (λ κs a x s p. p)
+
+one-is-repetitive-field : Fixes is-repetitive-field.Post (λ κs x s. x)
+one-is-repetitive-field = fixed (λ κs a x s p. p)
 
 one-field-at : Fixes field-at.Post (λ κs x s. x)
 one-field-at = fixed (λ κs a x s p. p)

@@ -150,6 +150,10 @@ unfoldable pub declaredBits : Table → ℕ → ℕ → ℕ
 declaredBits t i zero = 0
 declaredBits t i (suc n) = declaredBits t i n + t .field (i + n) .width
 
+-- "the set's declared bits": those of one element of set k
+abbrev pub groupBits : Table → ℕ → ℕ
+groupBits t k = declaredBits t (t .set k .start) (t .set k .size)
+
 -- where the set before set k ends: 0 for the first
 abbrev pub endBefore : Table → ℕ → ℕ
 endBefore t zero = 0

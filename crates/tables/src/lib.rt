@@ -15,6 +15,8 @@ mod sets;
 mod words;
 
 pub use crate::checking::check;
+pub use crate::sets::group_bits;
+pub use crate::sets::is_repetitive_field;
 pub use crate::words::field_at;
 pub use crate::words::field_count;
 pub use crate::words::length_of;

@@ -2,9 +2,10 @@
 ghost use mathlib.Core.Path.{_≡_};
 ghost use Prim.Native.Nat.{_≤_, _*_};
 ghost use Rattle.tables.specs.Table.{tableOf};
-ghost use Rattle.tables.specs.Rules.{inSet, inSets, declaredBits, endBefore};
+ghost use Rattle.tables.specs.Rules.{inSet, inSets, declaredBits, groupBits, endBefore};
 use crate::words::field_at;
 use crate::words::set_at;
+use crate::words::set_count;
 
 // Whether field i is in set k.
 fn in_set(words: &[u64], i: usize, k: usize) -> bool
@@ -31,6 +32,13 @@ pub(crate) fn in_sets(words: &[u64], i: usize, m: usize) -> bool
     false
 }
 
+// Whether field i is in a set.
+pub fn is_repetitive_field(words: &[u64], i: usize) -> bool
+    ensures { λ r. ⌜ r ≡ inSets (tableOf (now (words .entry))) i (tableOf (now (words .entry)) .sets) ⌝ }
+{
+    in_sets(words, i, set_count(words))
+}
+
 // The widths of n fields from field i on, added up.
 pub(crate) fn declared_bits(words: &[u64], i: usize, n: usize) -> usize
     requires { ⌜ (i ≤ 65536) × (n ≤ 65536) ⌝ }
@@ -44,6 +52,16 @@ pub(crate) fn declared_bits(words: &[u64], i: usize, n: usize) -> usize
         j += 1;
     }
     sum
+}
+
+// The bits that set k declares for one element.
+pub fn group_bits(words: &[u64], k: usize) -> usize
+    ensures { λ r. ⌜ r ≡ groupBits (tableOf (now (words .entry))) k ⌝ }
+{
+    let s = set_at(words, k);
+    let start = s.start;
+    let size = s.size;
+    declared_bits(words, start, size)
 }
 
 // Where the set before set k ends.
