@@ -1,0 +1,6 @@
+pub mod Rooms
+pub mod Spelled
+pub mod Says
+pub mod Inside
+pub mod Filled
+pub mod OneAnswer

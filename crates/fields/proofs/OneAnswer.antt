@@ -1,0 +1,23 @@
+-- Two answers allowed for an input are equal: of the contract of each public call as the source states it, `Post`.
+-- Assumes nothing.
+use Rattle.one_answer.proofs.Fixes.{Fixes, fixed}
+use Rattle.fields.proofs.availability.field_availability.Reads as field-availability
+use Rattle.fields.proofs.fields.read_field_raw_and_value.Reads as read-field-raw-and-value
+use Rattle.fields.proofs.DecodeRefusal.number.Reads as number
+use Rattle.fields.proofs.DecodeRefusal.carried_count.Reads as carried-count
+use Rattle.fields.proofs.DecodeRefusal.carried.Reads as carried
+
+one-field-availability : Fixes field-availability.Post (λ κs x s. x)
+one-field-availability = fixed (λ κs a x s p. p)
+
+one-read-field-raw-and-value : Fixes read-field-raw-and-value.Post (λ κs x s. x)
+one-read-field-raw-and-value = fixed (λ κs a x s p. p)
+
+one-number : Fixes number.Post (λ κs x s. x)
+one-number = fixed (λ κs a x s p. p)
+
+one-carried-count : Fixes carried-count.Post (λ κs x s. x)
+one-carried-count = fixed (λ κs a x s p. p)
+
+one-carried : Fixes carried.Post (λ κs x s. x)
+one-carried = fixed (λ κs a x s p. p)

@@ -1,0 +1,13 @@
+-- `fields::shapes::binary` meets its contract: by the test. Assumes nothing.
+use borrow.Author.Tests.{eq-eqb, ne-eqb}
+use Rattle.fields.proofs.shapes.binary.Statement.{statement}
+use Rattle.fields.proofs.shapes.binary.Tie as tie
+
+returns : tie.Need-returns
+returns c = simp (eq-eqb _ _ (c .if1 .taken))
+
+returns-2 : tie.Need-returns-2
+returns-2 c = simp (ne-eqb _ _ (c .if1 .left))
+
+pub binary-spec : {M : Type 1} → statement M
+binary-spec = tie.close (tie.spec returns returns-2)

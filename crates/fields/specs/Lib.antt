@@ -1,0 +1,5 @@
+pub mod Payload
+pub mod Refusals
+pub mod Shapes
+pub mod Taken
+pub mod Content

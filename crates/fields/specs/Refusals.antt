@@ -1,0 +1,26 @@
+-- The refusals of a decode as document 01 counts them: "What each number means".
+use Prim.Native.Nat.{ℕ}
+use mathlib.Core.List.{List, [], _∷_}
+use Rattle.bits.specs.Refusals as bit
+use Rattle.tables.specs.Check.{letterOf}
+use Rattle.fields.specs.declared.DecodeRefusal.{DecodeRefusal}
+use Rattle.fields.specs.declared.DecodeRefusal.the-variants.{BitReaderError, InvalidDataLength, RepetitionsExceedCapacity, WrongLength, TableRefused, NoRoom}
+
+-- the paper's number
+abbrev pub numberOf : DecodeRefusal → ℕ
+numberOf (BitReaderError field refusal) = bit.numberOf refusal
+numberOf (InvalidDataLength field) = 4
+numberOf (RepetitionsExceedCapacity set count maximum) = 5
+numberOf (WrongLength length) = 7
+numberOf (TableRefused rule index) = 8
+numberOf (NoRoom field) = 9
+
+-- what it carries: 4 field; 5 set, count, maximum; 7 length; 8 rule letter, index; 9 field. "Inside decode and encode, 1 to 3 also name
+-- the field", which comes first
+abbrev pub carriedOf : DecodeRefusal → List ℕ
+carriedOf (BitReaderError field refusal) = field ∷ bit.carriedOf refusal
+carriedOf (InvalidDataLength field) = field ∷ []
+carriedOf (RepetitionsExceedCapacity set count maximum) = set ∷ count ∷ maximum ∷ []
+carriedOf (WrongLength length) = length .0 ∷ []
+carriedOf (TableRefused rule index) = letterOf rule ∷ index ∷ []
+carriedOf (NoRoom field) = field ∷ []
