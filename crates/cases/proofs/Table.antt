@@ -1,8 +1,8 @@
--- The cases of document 01 that are marked *, those on bits and numbers, in its order and words: each is computed from the
+-- The cases of document 01 that are marked *, all of them, in its order and words: each is computed from the
 -- definitions that the contracts cite. Assumes nothing.
 use mathlib.Core.Path.{_≡_, refl}
 use mathlib.Core.List.{List, [], _∷_}
-use Prim.Native.Nat.{ℕ}
+use Prim.Native.Nat.{ℕ, _+_, _*_}
 use Rattle.bits.specs.Bits.{sumBits, putBit, fromBits}
 use Rattle.bits.specs.declared.BitRefusal.the-variants.{OutOfBytes}
 use Rattle.bits.specs.declared.Moved.the-variants as moved
@@ -17,7 +17,25 @@ use Rattle.numbers.specs.declared.Quantized.the-variants.{Raw, OutOfRange}
 use Rattle.numbers.specs.Signs.{signExtendOf}
 use Rattle.numbers.specs.Quantizing.{quantizeOf}
 use Rattle.numbers.specs.Special.{elementsOf}
-use Rattle.bits.specs.Calls.{bytes, cursorAt, readU64Of, readSliceOf, advanceOf, writtenOf}
+use Rattle.bits.specs.Calls.{bits, bytes, cursorAt, readU64Of, readSliceOf, advanceOf, writtenOf}
+use Rattle.descriptor.specs.declared.FieldKind.{FieldKind}
+use Rattle.descriptor.specs.declared.FieldKind.the-variants.{StringLau, StringLz}
+use Rattle.descriptor.specs.declared.FieldDescriptor.{FieldDescriptor}
+use Rattle.descriptor.specs.declared.Resolution.the-variants.{Unscaled}
+use Rattle.descriptor.specs.declared.Encoding.{Encoding}
+use Rattle.descriptor.specs.declared.Encoding.the-variants as encoding
+use Rattle.descriptor.specs.declared.Availability.{Availability}
+use Rattle.descriptor.specs.declared.Availability.the-variants.{NotAvailable}
+use Rattle.tables.specs.Table.{Table, tableOf}
+use Rattle.tables.specs.Rules.{declaredBits}
+use Rattle.fields.specs.declared.DecodeRefusal.the-variants.{RepetitionsExceedCapacity}
+use Rattle.fields.specs.declared.FieldRead.{FieldRead}
+use Rattle.fields.specs.declared.FieldRead.the-variants.{Got}
+use Rattle.fields.specs.declared.Raw.the-variants as raw
+use Rattle.fields.specs.Payload.{payloadOf}
+use Rattle.fields.specs.Content.{textAt, fieldReadOf, availabilityOf}
+use Rattle.reading.specs.declared.GroupCount.the-variants as group
+use Rattle.reading.specs.Groups.{groupCountOf}
 
 -- Bit calls.
 
@@ -84,3 +102,41 @@ unsigned-64 = (refl, refl)
 -- "Counter 255 in 8 bits: 0"
 counter : elementsOf 8 255 ≡ 0
 counter = refl
+
+-- Reading.
+
+-- a counter of 8 bits, and a set of one Number of 32 bits, of which there are at most so many
+abbrev counted : ℕ → Table
+counted maximum = tableOf (0x1_0002 ∷ 0x800 ∷ 0x2000 ∷ (0x1_0001 + maximum * 0x1_0000_0000_0000) ∷ [])
+
+-- "3 declared, 64 bits left, 32 each: 2; maximum 1: refused with 2"
+two-fit : (groupCountOf (counted 5) 0 3 64 ≡ group.Count 2) × (groupCountOf (counted 1) 0 3 64 ≡ group.Refused (RepetitionsExceedCapacity 0 2 1))
+unfolding declaredBits
+two-fit = (refl, refl)
+
+-- a text of this kind at the start of a payload, which is the last field
+abbrev text : FieldKind → FieldDescriptor
+text kind = record { kind = kind; width = 0; signed = false; resolution = Unscaled }
+
+abbrev read : FieldKind → List ℕ → FieldRead
+read kind payload = fieldReadOf (payloadOf payload) (text kind) 0 true 0
+
+-- n bits, of which so many bytes from byte `place` on are text
+abbrev textOf : ℕ → ℕ → ℕ → Encoding → FieldRead
+textOf n place len enc = Got (bits n) raw.Absent (textAt place len enc)
+
+-- "LAU 0 or 1: 8 bits; 2: 16 bits, not available"
+lau :
+    (read StringLau (0 ∷ []) ≡ textOf 8 0 0 encoding.Absent)
+    × (read StringLau (1 ∷ []) ≡ textOf 8 0 0 encoding.Absent)
+    × (read StringLau (2 ∷ 1 ∷ []) ≡ textOf 16 0 0 (encoding.Byte 1))
+    × (availabilityOf (payloadOf (2 ∷ 1 ∷ [])) (text StringLau) raw.Absent (textAt 0 0 (encoding.Byte 1)) ≡ NotAvailable)
+unfolding sumBits
+lau = (refl, refl, refl, refl)
+
+-- "LZ 02 41 42 00: 32 bits; 02 41 42 07: 24"
+lz :
+    (read StringLz (0x02 ∷ 0x41 ∷ 0x42 ∷ 0x00 ∷ []) ≡ textOf 32 1 2 encoding.Absent)
+    × (read StringLz (0x02 ∷ 0x41 ∷ 0x42 ∷ 0x07 ∷ []) ≡ textOf 24 1 2 encoding.Absent)
+unfolding sumBits
+lz = (refl, refl)

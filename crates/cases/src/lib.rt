@@ -1,2 +1,1 @@
-// The cases that document 01 marks *, those on bits and numbers, all in one table: proofs/Table.antt.
-// There is no code here.
+// The cases that document 01 marks *, all in one table: proofs/Table.antt. There is no code here.

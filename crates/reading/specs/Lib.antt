@@ -1,0 +1,4 @@
+pub mod Groups
+pub mod Filling
+pub mod Decode
+pub mod Steps

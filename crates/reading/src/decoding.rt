@@ -1,0 +1,61 @@
+// A payload from its first field to the end.
+ghost use mathlib.Core.Path.{_≡_};
+ghost use lib.ListN.{length};
+ghost use Rattle.tables.specs.Table.{tableOf};
+ghost use Rattle.tables.specs.Check.{checkOf};
+ghost use Rattle.tables.specs.declared.Checked.the-variants as checked;
+ghost use Rattle.fields.specs.Payload.{payloadOf};
+ghost use Rattle.reading.specs.Filling.{runAfter};
+ghost use Rattle.reading.specs.Decode.{walkOf, endOf, decodedOf};
+use crate::Answer;
+use crate::Decoded;
+use crate::Prepared;
+use crate::filling;
+use crate::turns;
+
+// The walk through the working payload s, by an accepted table.
+fn walked(words: &[u64], s: &[u8], room: usize) -> Decoded
+    requires { ⌜ checkOf (tableOf (now words)) ≡ checked.Accepted ⌝ }
+    ensures { λ r. ⌜ r ≡ endOf (tableOf (now (words .entry))) (payloadOf (now (s .entry))) (walkOf (tableOf (now (words .entry))) (payloadOf (now (s .entry))) room) ⌝ }
+{
+    let mut walk = turns::start();
+    loop {
+        let next = turns::next_field(words, s, room, walk);
+        let answer = next.answer;
+        walk = next.walk;
+        let progress = walk.progress;
+        let at = progress.at;
+        let made = progress.made;
+        match answer {
+            Answer::Met(_) => {}
+            Answer::Skipped(_) => {}
+            Answer::Moved => {}
+            Answer::Ended => {
+                return Decoded::Ended {
+                    end: at,
+                    count: made,
+                };
+            }
+            Answer::Refused(refusal) => {
+                return Decoded::Refused {
+                    refusal,
+                    count: made,
+                };
+            }
+        }
+    }
+}
+
+// Every field of a received payload, by a table: the end and the number of readings, with room for so
+// many, or the refusal. The padding run is of 223 bytes.
+pub fn for_each_field(words: &[u64], received: &[u8], padded: &mut [u8], room: usize) -> Decoded
+    ensures { λ r. ⌜ (r ≡ decodedOf (tableOf (now (words .entry))) (now (received .entry)) (length (now (padded .entry))) room) × (now (padded .exit) ≡ runAfter (tableOf (now (words .entry))) (now (received .entry)) (now (padded .entry))) ⌝ }
+{
+    match filling::prepare(words, received, padded) {
+        Prepared::Ready => {
+            let s = filling::pad_to_min_length(words, received, padded);
+            walked(words, s, room)
+        }
+        Prepared::Refused(refusal) => Decoded::Refused { refusal, count: 0 },
+    }
+}

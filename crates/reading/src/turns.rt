@@ -1,0 +1,243 @@
+// The walk by single turns.
+ghost use mathlib.Core.Path.{_≡_};
+ghost use Prim.Native.Nat.{_≤_, _<_};
+ghost use Rattle.tables.specs.Table.{tableOf};
+ghost use Rattle.walking.specs.declared.Place.the-variants as place;
+ghost use Rattle.walking.specs.Walk.{placeOf};
+ghost use Rattle.walking.specs.Turns.{seen as seenOf, turnBy, turnWithin, ended as endedAt};
+ghost use Rattle.fields.specs.Payload.{payloadOf};
+ghost use Rattle.fields.specs.Shapes.{shapeOf};
+ghost use Rattle.fields.specs.Content.{rawIn, valueIn};
+ghost use Rattle.reading.specs.Groups.{exceeds};
+ghost use Rattle.reading.specs.Decode.{oneOf, countOf, readingOf};
+ghost use Rattle.reading.specs.Steps.{nextTo, shown, nextOf, startOf};
+use crate::Answer;
+use crate::GroupCount;
+use crate::Next;
+use crate::Progress;
+use crate::Reading;
+use crate::Span;
+use crate::Walk;
+use crate::groups;
+use bits::BitPos;
+use bits::Cursor;
+use descriptor::PgnValue;
+use fields::DecodeRefusal;
+use fields::FieldRead;
+use fields::Raw;
+use fields::field_availability;
+use fields::read_field_raw_and_value;
+use walking::Element;
+use walking::Place;
+use walking::Spot;
+
+// A walk before its first field.
+pub fn start() -> Walk
+    ensures { λ r. ⌜ r ≡ startOf ⌝ }
+{
+    let progress = Progress {
+        at: BitPos(0),
+        made: 0,
+        counters: [0; 4],
+    };
+    Walk {
+        spot: Spot::Field(0),
+        progress,
+    }
+}
+
+fn next(answer: Answer, spot: Spot, progress: Progress) -> Next
+    ensures { λ r. ⌜ r ≡ nextTo answer spot progress ⌝ }
+{
+    let walk = Walk { spot, progress };
+    Next { answer, walk }
+}
+
+// The reading of field i, which takes these bits.
+fn reading_of(words: &[u64], s: &[u8], v: Span, raw: Raw, value: PgnValue) -> Reading
+    requires { ⌜ (raw ≡ rawIn (shapeOf (tableOf (now words) .field (v .field))) (payloadOf (now s)) (v .start .0) (v .bits .0)) × (value ≡ valueIn (shapeOf (tableOf (now words) .field (v .field))) (tableOf (now words) .field (v .field)) (payloadOf (now s)) (v .start .0) (v .bits .0)) ⌝ }
+    ensures { λ r. ⌜ r ≡ readingOf (tableOf (now (words .entry))) (payloadOf (now (s .entry))) v ⌝ }
+{
+    let field = v.field;
+    let element = v.element;
+    let start = v.start;
+    let bits = v.bits;
+    let f = tables::field_at(words, field);
+    let availability = field_availability(s, f, raw, value);
+    Reading {
+        field,
+        element,
+        start,
+        bits,
+        raw,
+        value,
+        availability,
+    }
+}
+
+// Field i, in element e; the walk then goes on at `to`. `here` is the spot that it stands at.
+fn see(
+    words: &[u64],
+    s: &[u8],
+    room: usize,
+    i: usize,
+    e: Element,
+    last: bool,
+    p: Progress,
+    to: Spot,
+    here: Spot,
+) -> Next
+    ensures { λ r. ⌜ r ≡ shown (tableOf (now (words .entry))) (payloadOf (now (s .entry))) here (seenOf to p (oneOf (tableOf (now (words .entry))) (payloadOf (now (s .entry))) room i e last p)) ⌝ }
+{
+    let at = p.at;
+    let made = p.made;
+    let cs = p.counters;
+    let f = tables::field_at(words, i);
+    match read_field_raw_and_value(s, Cursor { at }, f, i, last) {
+        FieldRead::Got { bits, raw, value } => {
+            if made < room {
+                let v = Span {
+                    field: i,
+                    element: e,
+                    start: at,
+                    bits,
+                };
+                let reading = reading_of(words, s, v, raw, value);
+                let counters = groups::noted_by(words, e, i, raw, cs);
+                let to_at = at.0 + bits.0;
+                let progress = Progress {
+                    at: BitPos(to_at),
+                    made: made + 1,
+                    counters,
+                };
+                return next(Answer::Met(reading), to, progress);
+            }
+            next(Answer::Refused(DecodeRefusal::NoRoom { field: i }), here, p)
+        }
+        FieldRead::Skipped { bits } => {
+            let v = Span {
+                field: i,
+                element: e,
+                start: at,
+                bits,
+            };
+            let to_at = at.0 + bits.0;
+            let progress = Progress {
+                at: BitPos(to_at),
+                made,
+                counters: cs,
+            };
+            next(Answer::Skipped(v), to, progress)
+        }
+        FieldRead::Refused(e) => next(Answer::Refused(e), here, p),
+    }
+}
+
+// Into set k, if it has not too many elements.
+fn enter(words: &[u64], s: &[u8], room: usize, k: usize, p: Progress, here: Spot) -> Next
+    ensures { λ r. ⌜ r ≡ shown (tableOf (now (words .entry))) (payloadOf (now (s .entry))) here (turnBy (tableOf (now (words .entry))) (oneOf (tableOf (now (words .entry))) (payloadOf (now (s .entry))) room) (countOf (tableOf (now (words .entry))) (payloadOf (now (s .entry)))) exceeds 0 (place.Starts k) p) ⌝ }
+{
+    let at = p.at;
+    let cs = p.counters;
+    let c = Cursor { at };
+    let left = c.bits_remaining(s);
+    let raw = groups::counter_at(cs, k);
+    match groups::repeating_group_count(words, k, raw, left) {
+        GroupCount::Count(n) => {
+            let to = Spot::Within {
+                set: k,
+                count: n,
+                element: 0,
+                offset: 0,
+            };
+            next(Answer::Moved, to, p)
+        }
+        GroupCount::Refused(e) => next(Answer::Refused(e), here, p),
+    }
+}
+
+// Field i, wherever it stands.
+fn at_field(words: &[u64], s: &[u8], room: usize, i: usize, p: Progress, here: Spot) -> Next
+    requires { ⌜ i < 65536 ⌝ }
+    ensures { λ r. ⌜ r ≡ shown (tableOf (now (words .entry))) (payloadOf (now (s .entry))) here (turnBy (tableOf (now (words .entry))) (oneOf (tableOf (now (words .entry))) (payloadOf (now (s .entry))) room) (countOf (tableOf (now (words .entry))) (payloadOf (now (s .entry)))) exceeds i (placeOf (tableOf (now (words .entry))) i) p) ⌝ }
+{
+    let to = Spot::Field(i + 1);
+    match walking::place_at(words, i) {
+        Place::Starts(k) => enter(words, s, room, k, p, here),
+        Place::Inside => next(Answer::Moved, to, p),
+        Place::Plain => {
+            let last = i + 1 == tables::field_count(words);
+            see(words, s, room, i, Element::Outside, last, p, to, here)
+        }
+    }
+}
+
+// In element e of the n of set k, at offset j.
+fn within(
+    words: &[u64],
+    s: &[u8],
+    room: usize,
+    k: usize,
+    n: usize,
+    e: usize,
+    j: usize,
+    p: Progress,
+    here: Spot,
+) -> Next
+    ensures { λ r. ⌜ r ≡ shown (tableOf (now (words .entry))) (payloadOf (now (s .entry))) here (turnWithin (tableOf (now (words .entry))) (oneOf (tableOf (now (words .entry))) (payloadOf (now (s .entry))) room) (countOf (tableOf (now (words .entry))) (payloadOf (now (s .entry)))) exceeds k n e j p) ⌝ }
+{
+    let set = tables::set_at(words, k);
+    let start = set.start;
+    let size = set.size;
+    if e < n {
+        if j < size {
+            let to = Spot::Within {
+                set: k,
+                count: n,
+                element: e,
+                offset: j + 1,
+            };
+            return see(
+                words,
+                s,
+                room,
+                start + j,
+                Element::At(e),
+                false,
+                p,
+                to,
+                here,
+            );
+        }
+        let to = Spot::Within {
+            set: k,
+            count: n,
+            element: e + 1,
+            offset: 0,
+        };
+        return next(Answer::Moved, to, p);
+    }
+    next(Answer::Moved, Spot::Field(start + 1), p)
+}
+
+// One turn of a walk through the working payload s, with room for so many readings in all.
+pub fn next_field(words: &[u64], s: &[u8], room: usize, walk: Walk) -> Next
+    ensures { λ r. ⌜ r ≡ nextOf (tableOf (now (words .entry))) (payloadOf (now (s .entry))) room walk ⌝ }
+{
+    let here = walk.spot;
+    let p = walk.progress;
+    match here {
+        Spot::Field(i) => {
+            if i < tables::field_count(words) {
+                return at_field(words, s, room, i, p, here);
+            }
+            next(Answer::Ended, here, p)
+        }
+        Spot::Within {
+            set,
+            count,
+            element,
+            offset,
+        } => within(words, s, room, set, count, element, offset, p, here),
+    }
+}
