@@ -24,11 +24,14 @@ fn number(s: &[u8], strict: bool, f: FieldDescriptor, i: usize, early: bool, at:
     let width = f.width;
     let c = Cursor { at: BitPos(at) };
     match c.read_u64(s, width) {
-        ReadU64::Got { value, next: _ } => FieldRead::Got {
-            bits: BitPos(width as usize),
-            raw: Raw::Number(value),
-            value: numbers::scale_raw_field(value, f),
-        },
+        ReadU64::Got { value, next: _ } => {
+            let taken = width as usize;
+            FieldRead::Got {
+                bits: BitPos(taken),
+                raw: Raw::Number(value),
+                value: numbers::scale_raw_field(value, f),
+            }
+        }
         ReadU64::Refused(e) => {
             if strict {
                 return FieldRead::Refused(DecodeRefusal::InvalidDataLength { field: i });
@@ -45,9 +48,12 @@ fn gap(s: &[u8], f: FieldDescriptor, i: usize, early: bool, at: usize) -> FieldR
     let width = f.width;
     let c = Cursor { at: BitPos(at) };
     match c.advance(s, width) {
-        Moved::To { next: _ } => FieldRead::Skipped {
-            bits: BitPos(width as usize),
-        },
+        Moved::To { next: _ } => {
+            let taken = width as usize;
+            FieldRead::Skipped {
+                bits: BitPos(taken),
+            }
+        }
         Moved::Refused(e) => texts::refused(i, e),
     }
 }

@@ -14,8 +14,8 @@ advance-requires c κs = search needs
 enum-told : tie.Need-enum-told
 enum-told c = search needs
 
-cast-t12 : tie.Need-cast-t12
-cast-t12 c = search needs
+cast-taken : tie.Need-cast-taken
+cast-taken c = search needs
 
 enum-known-e : tie.Need-enum-known-e
 enum-known-e c = search needs
@@ -42,4 +42,4 @@ returns-2 c =
 pub gap-spec : {M : Type 1} → statement M
 gap-spec =
     tie.close
-    (tie.spec advance-requires enum-told cast-t12 enum-known-e refused-requires returns returns-2)
+    (tie.spec advance-requires enum-told cast-taken enum-known-e refused-requires returns returns-2)

@@ -21,8 +21,8 @@ read-u64-requires c κs = search needs
 enum-known-value : tie.Need-enum-known-value
 enum-known-value c = search needs
 
-cast-t14 : tie.Need-cast-t14
-cast-t14 c = search needs
+cast-taken : tie.Need-cast-taken
+cast-taken c = search needs
 
 scale-raw-field-requires : tie.Need-scale-raw-field-requires
 scale-raw-field-requires c κs = search needs
@@ -67,7 +67,7 @@ number-spec =
     (tie.spec
     read-u64-requires
     enum-known-value
-    cast-t14
+    cast-taken
     scale-raw-field-requires
     enum-known-e
     returns
