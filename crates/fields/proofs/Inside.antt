@@ -17,7 +17,7 @@ use Rattle.fields.specs.declared.Shape.the-variants.{Number, Gap, Fixed,
 use Rattle.fields.specs.declared.Taken.{Taken}
 use Rattle.fields.specs.declared.Taken.the-variants.{Took, Refused}
 use Rattle.fields.specs.Payload.{Payload}
-use Rattle.fields.specs.Taken.{ifRoom, shortOf, ifShort, roomAt, bytesRoom, textRoom, fixedBytes, lauTaken, closedBy, closedAt, lzTaken, takenBy}
+use Rattle.fields.specs.Taken.{ifRoom, shortOf, ifLength, roomAt, bytesRoom, textRoom, fixedBytes, lauTaken, closedBy, closedAt, lzTaken, takenBy}
 
 module _ (p : Payload) (at : ℕ) where
   -- the n bits from `at` on

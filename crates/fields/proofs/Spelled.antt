@@ -31,7 +31,7 @@ use Rattle.fields.specs.declared.Taken.the-variants as taken
 use Rattle.fields.specs.declared.FieldRead.{FieldRead}
 use Rattle.fields.specs.declared.FieldRead.the-variants as read
 use Rattle.fields.specs.Payload.{Payload, payloadOf, bitsLeft}
-use Rattle.fields.specs.Taken.{ifRoom, ifShort, shortOf, roomAt, bytesRoom, textRoom, fixedBytes, lauTaken, closedAt, lzTaken}
+use Rattle.fields.specs.Taken.{ifRoom, ifLength, shortOf, roomAt, bytesRoom, textRoom, fixedBytes, lauTaken, closedAt, lzTaken}
 use Rattle.fields.specs.Content.{textAt, encodingIn, textRead, refusedOf, readOver}
 
 eighth : (n : ℕ) → 8 * n / 8 ≡ n
@@ -74,10 +74,10 @@ module _ (s : List ℕ) (c : Cursor) (n v : ℕ) (d : Cursor) where
 
 -- a length byte over 223, of whatever it is the length
 pub too-long : (i len : ℕ) (later : Taken) (sh : Shape) (f : FieldDescriptor) (p : Payload) (at : ℕ) → 223 < len
-    → read.Refused (InvalidDataLength i) ≡ readOver (ifShort i len later) sh f p at
+    → read.Refused (InvalidDataLength i) ≡ readOver (ifLength i len later) sh f p at
 too-long i len later sh f p at l = ap (λ (b : Bool). readOver (pick b (taken.Refused (InvalidDataLength i)) later) sh f p at) (sym (lt-ltb 223 len l))
 
-short-enough : (i len : ℕ) (later : Taken) → len ≤ 223 → later ≡ ifShort i len later
+short-enough : (i len : ℕ) (later : Taken) → len ≤ 223 → later ≡ ifLength i len later
 short-enough i len later l = ap (λ (b : Bool). pick b (taken.Refused (InvalidDataLength i)) later) (sym (le-ltb 223 len l))
 
 module _ (f : FieldDescriptor) (s : List ℕ) (i at len : ℕ) where

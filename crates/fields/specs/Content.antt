@@ -48,7 +48,7 @@ rawIn Whole p at n = raw.Absent
 rawIn Lau p at n = raw.Absent
 rawIn Lz p at n = raw.Absent
 
--- "value"
+-- "value"; a skipped field has none, and what stands here for it is never looked at
 abbrev pub valueIn : Shape → FieldDescriptor → Payload → ℕ → ℕ → PgnValue
 valueIn (Number strict) f p at n = scaleOf f (p .bits at n)
 valueIn Gap f p at n = textAt 0 0 encoding.Absent
@@ -61,6 +61,7 @@ valueIn Lz f p at n = textAt (at / 8 + 1) (p .bits at 8) encoding.Absent
 abbrev pub ends : ℕ → Bool
 ends byte = eqb byte 0xff || (eqb byte 0x40 || eqb byte 0)
 
+-- not available if so
 abbrev pub unless : Bool → Availability
 unless true = NotAvailable
 unless false = Available
@@ -87,6 +88,7 @@ byText (I8 z) says = Available
 byText (F64 x) says = Available
 byText (F32 x) says = Available
 
+-- by the raw, if there is one
 abbrev pub byRaw : FieldDescriptor → Raw → Availability
 byRaw f (raw.Number r) = numberAvailabilityOf f r
 byRaw f raw.Absent = Available
@@ -107,7 +109,8 @@ availabilityOf p f r v = availabilityBy (shapeOf f) p f r v
 abbrev pub refusedOf : ℕ → BitRefusal → FieldRead
 refusedOf i e = Refused (BitReaderError i e)
 
--- n bytes at a place, of a field that takes so many bits, if there is room for them
+-- n bytes at a place, of a field that takes so many bits, if there is room for them: what the code goes by; proofs/Spelled.antt ties it
+-- to the definitions below
 abbrev pub textRead : Room → ℕ → ℕ → ℕ → ℕ → Encoding → FieldRead
 textRead room.Fits i taken place n enc = Got (bits taken) raw.Absent (textAt place n enc)
 textRead (room.Refused e) i taken place n enc = refusedOf i e
@@ -121,6 +124,7 @@ readAs Whole f p at n = Got (bits n) (rawIn Whole p at n) (valueIn Whole f p at 
 readAs Lau f p at n = Got (bits n) (rawIn Lau p at n) (valueIn Lau f p at n)
 readAs Lz f p at n = Got (bits n) (rawIn Lz p at n) (valueIn Lz f p at n)
 
+-- what is read of the bits taken, or the refusal
 abbrev pub readOver : Taken → Shape → FieldDescriptor → Payload → ℕ → FieldRead
 readOver (taken.Took n) sh f p at = readAs sh f p at n
 readOver (taken.Refused e) sh f p at = Refused e

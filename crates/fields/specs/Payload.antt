@@ -1,4 +1,4 @@
--- A payload as reading sees it: its length, and the number in n bits from a place. Nothing else is asked of it.
+-- A payload as document 01, "Reading a payload", sees it: its length, and the number in n bits from a place. Nothing else is asked of it.
 use Prim.Native.Nat.{ℕ}
 use mathlib.Core.List.{List}
 use lib.ListN.{length}

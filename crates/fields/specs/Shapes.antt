@@ -35,5 +35,6 @@ shapeBy kind.Time w = Number false
 shapeBy kind.Decimal w = Number false
 shapeBy kind.Unimplemented w = Number false
 
+-- of a field
 abbrev pub shapeOf : FieldDescriptor → Shape
 shapeOf f = shapeBy (f .kind) (f .width)

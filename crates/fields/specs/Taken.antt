@@ -23,7 +23,7 @@ abbrev pub ifRoom : Room → ℕ → Taken → Taken
 ifRoom room.Fits i later = later
 ifRoom (room.Refused e) i later = Refused (BitReaderError i e)
 
--- the refusal of a number that cannot be read: "Number kinds cut short give 4; other kinds give 1, 2 or 3"
+-- the refusal of a number that cannot be read: "Number kinds .. cut short give 4; other kinds give 1, 2 or 3"
 abbrev pub shortOf : Bool → ℕ → Room → Taken → Taken
 shortOf strict i room.Fits later = later
 shortOf true i (room.Refused e) later = Refused (InvalidDataLength i)
@@ -41,18 +41,22 @@ bytesRoom p at n = sliceRoomOf (p .size) at n
 abbrev pub textRoom : Payload → ℕ → ℕ → Room
 textRoom p at n = pick (eqb n 0) room.Fits (bytesRoom p at n)
 
+-- a StringFix over so many bytes may stop early
+abbrev pub fixedMax : ℕ
+fixedMax = 32
+
 -- "StringFix over 32 bytes as the last field of the table, outside a set, takes the smaller of its size and the whole bytes left"
 abbrev pub fixedBytes : Payload → Bool → ℕ → ℕ → ℕ
-fixedBytes p early at w = pick (early && ltb 32 (w / 8)) (min (w / 8) (bitsLeft p at / 8)) (w / 8)
+fixedBytes p early at w = pick (early && ltb fixedMax (w / 8)) (min (w / 8) (bitsLeft p at / 8)) (w / 8)
 
 -- "string length byte over 223" is 4
-abbrev pub ifShort : ℕ → ℕ → Taken → Taken
-ifShort i len later = pick (ltb payloadMax len) (Refused (InvalidDataLength i)) later
+abbrev pub ifLength : ℕ → ℕ → Taken → Taken
+ifLength i len later = pick (ltb payloadMax len) (Refused (InvalidDataLength i)) later
 
 -- "StringLau: length 0 or 1 is empty and takes 8 bits; otherwise an encoding byte and length − 2 of text"
 abbrev pub lauTaken : Payload → ℕ → ℕ → ℕ → Taken
 lauTaken p i at len =
-    ifShort i len
+    ifLength i len
     (pick (ltb len 2) (Took 8)
     (ifRoom (roomAt p (at + 8) 8) i
     (ifRoom (textRoom p (at + 16) (len - 2)) i (Took (16 + 8 * (len - 2))))))
@@ -67,7 +71,7 @@ closedAt p at n = closedBy (roomAt p (at + n) 8) (p .bits (at + n) 8) n
 
 -- "StringLz: length byte, text, [that byte]"
 abbrev pub lzTaken : Payload → ℕ → ℕ → ℕ → Taken
-lzTaken p i at len = ifShort i len (ifRoom (textRoom p (at + 8) len) i (Took (closedAt p at (8 + 8 * len))))
+lzTaken p i at len = ifLength i len (ifRoom (textRoom p (at + 8) len) i (Took (closedAt p at (8 + 8 * len))))
 
 -- a field of width w: "Reserved and Spare are skipped", "a StringFix always [needs alignment]"
 abbrev pub takenBy : Shape → Payload → ℕ → Bool → ℕ → ℕ → Taken
@@ -78,5 +82,6 @@ takenBy Whole p i early w at = ifRoom (bytesRoom p at (w / 8)) i (Took (8 * (w /
 takenBy Lau p i early w at = ifRoom (roomAt p at 8) i (lauTaken p i at (p .bits at 8))
 takenBy Lz p i early w at = ifRoom (roomAt p at 8) i (lzTaken p i at (p .bits at 8))
 
+-- a field at a place
 abbrev pub takenOf : Payload → FieldDescriptor → ℕ → Bool → ℕ → Taken
 takenOf p f i early at = takenBy (shapeOf f) p i early (f .width) at

@@ -59,7 +59,7 @@ fn gap(s: &[u8], f: FieldDescriptor, i: usize, early: bool, at: usize) -> FieldR
 }
 
 // Field i at a cursor: the bits that it takes, its raw and its value. A wide StringFix that may stop
-// early takes what is left.
+// early takes what is left where that is less.
 pub fn read_field_raw_and_value(
     s: &[u8],
     c: Cursor,

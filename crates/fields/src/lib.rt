@@ -4,7 +4,7 @@
 // Promise: every call takes any payload, place and field, and answers exactly as specs/Content.antt
 // says: the bits that the field takes, its raw and its value, or the refusal, with document 01's
 // number and values. A payload is seen only through its length and the bits at a place
-// (specs/Payload.antt). No call has a `requires`.
+// (specs/Payload.antt). No public call has a `requires`.
 use bits::BitPos;
 use bits::BitRefusal;
 use bits::ByteCount;
@@ -22,7 +22,8 @@ pub use crate::fields::read_field_raw_and_value;
 
 // The refusals of a decode. `number` gives document 01's number, `carried` what it carries.
 pub enum DecodeRefusal {
-    // 1, 2 and 3: what the bit call refused, and at which field.
+    // 1, 2 and 3 (and 6 of a payload that no decode lets through): what the bit call refused, and at
+    // which field.
     BitReaderError {
         field: usize,
         refusal: BitRefusal,

@@ -21,7 +21,8 @@ use descriptor::FieldDescriptor;
 use descriptor::PgnBytes;
 use descriptor::PgnValue;
 
-const TEXT_MAX: usize = 223;
+// The largest length byte of a string.
+const LENGTH_MAX: usize = 223;
 
 // A StringFix over so many bytes may stop early where it is the last field.
 const FIXED_MAX: usize = 32;
@@ -140,7 +141,7 @@ fn lau_text(s: &[u8], f: FieldDescriptor, i: usize, at: usize, len: usize) -> Fi
     requires { ⌜ at ≤ 524288 ⌝ }
     ensures { λ r. ⌜ r ≡ readOver (lauTaken (payloadOf (now (s .entry))) i at len) shape.Lau f (payloadOf (now (s .entry))) at ⌝ }
 {
-    if TEXT_MAX < len {
+    if LENGTH_MAX < len {
         return FieldRead::Refused(DecodeRefusal::InvalidDataLength { field: i });
     }
     if len < 2 {
@@ -189,7 +190,7 @@ fn lz_text(s: &[u8], f: FieldDescriptor, i: usize, at: usize, len: usize) -> Fie
     requires { ⌜ (at ≤ 524288) × (len ≡ payloadOf (now s) .bits at 8) ⌝ }
     ensures { λ r. ⌜ r ≡ readOver (lzTaken (payloadOf (now (s .entry))) i at len) shape.Lz f (payloadOf (now (s .entry))) at ⌝ }
 {
-    if TEXT_MAX < len {
+    if LENGTH_MAX < len {
         return FieldRead::Refused(DecodeRefusal::InvalidDataLength { field: i });
     }
     let room = text_room(s, at + 8, len);

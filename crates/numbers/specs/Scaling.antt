@@ -59,7 +59,7 @@ clockOf Unscaled raw = U64 raw
 clockOf (Single r) raw = F64 (productOf (pos raw) r)
 clockOf (Double r) raw = F64 (productOf (pos raw) r)
 
--- which rule a kind follows. A kind that has no number follows that of BitLookup, which is never asked
+-- which rule a kind follows. A Binary that is no whole bytes follows that of BitLookup, and so does a kind that has no number, which is never asked
 abbrev pub ruleOf : FieldKind → ScaleRule
 ruleOf kind.Number = Plain
 ruleOf kind.Lookup = Plain

@@ -37,13 +37,17 @@ use Rattle.reading.specs.declared.Answer.the-variants.{Met, Skipped, Mov
 use Rattle.reading.specs.declared.Next.{Next}
 use Rattle.reading.specs.declared.Decoded.{Decoded}
 use Rattle.reading.specs.declared.Decoded.the-variants as decoded
-use Rattle.fields.specs.Payload.{Payload}
+use Rattle.fields.specs.Payload.{Payload, payloadOf}
 use Rattle.fields.specs.Shapes.{shapeOf}
 use Rattle.fields.specs.Content.{fieldReadOf}
-use Rattle.reading.specs.Groups.{notedBy, exceeds}
-use Rattle.reading.specs.Decode.{spanAt, progressAt, settled, oneOf, countOf, beginning, walkOf, readingOf, withReading, readings, spansOf, endOf}
+use Rattle.reading.specs.declared.Prepared.{Prepared}
+use Rattle.reading.specs.declared.Prepared.the-variants.{Ready}
+use Rattle.reading.specs.Filling.{workingOf, preparedOf}
+use Rattle.reading.specs.Groups.{notedBy, tooMany}
+use Rattle.reading.specs.Decode.{spanAt, progressAt, settled, oneOf, countOf, beginning, walkOf, readingOf, withReading, readings, spansOf, endOf, readInto, readingsOf}
 use Rattle.reading.specs.Steps.{metBy, metOf, shown, turnOf, nextOf, startOf, goesOn, handed, handedIn}
 use Rattle.reading.proofs.Told.{told, gone}
+use Rattle.reading.proofs.Working.{readied}
 
 -- an accepted table's sets are small
 pub small : (t : Table) → checkOf t ≡ Accepted → (i k : ℕ) → placeOf t i ≡ Starts k → (t .set k .size ≤ 64) × (t .set k .maximum ≤ 255)
@@ -120,16 +124,16 @@ module _ (t : Table) (p : Payload) (room : ℕ) where
   -- the fields met so far, and that decoding is these and then the rest
   pub record Going (w : Walk) : Type 0 where
     pub done : List Span
-    pub stands : Stands t one count exceeds beginning done (w .spot) (w .progress)
+    pub stands : Stands t one count tooMany beginning done (w .spot) (w .progress)
     pub made : w .progress .made ≡ length (readings t p done)
-    pub bounded : Bounded t one count exceeds (w .spot)
+    pub bounded : Bounded t one count tooMany (w .spot)
 
   abbrev pub heft : Walk → ℕ
-  heft w = weight t one count exceeds (w .spot)
+  heft w = weight t one count tooMany (w .spot)
 
   pub going : Going startOf
   unfolding readings
-  going = record { done = []; stands = stands-begin t one count exceeds beginning; made = refl; bounded = tt }
+  going = record { done = []; stands = stands-begin t one count tooMany beginning; made = refl; bounded = tt }
 
   abbrev pub whole : Decoded
   whole = endOf t p (walkOf t p room)
@@ -192,15 +196,15 @@ module _ (t : Table) (p : Payload) (room : ℕ) where
   done-all w g = ap (readings t p) (append-nil (g .done))
 
   turned-by : (w : Walk) (g : Going w) (x : Turn Span Progress DecodeRefusal) → turnOf t p room (w .spot) (w .progress) ≡ x
-      → Falls t one count exceeds (heft w) x → Meets t one count exceeds Makes makes (w .progress) x → Turned w g (shown t p (w .spot) x)
+      → Falls t one count tooMany (heft w) x → Meets t one count tooMany Makes makes (w .progress) x → Turned w g (shown t p (w .spot) x)
   turned-by w g (moved q z) e f m =
-      let h = moved-falls t one count exceeds f in
-      let same = moved-law t one count exceeds Makes makes (w .progress) m in
+      let h = moved-falls t one count tooMany f in
+      let same = moved-law t one count tooMany Makes makes (w .progress) m in
       turned-on w g (shown t p (w .spot) (moved q z)) refl
       (record {
         still = record {
           done = g .done;
-          stands = stands-moved t one count exceeds beginning (g .done) (w .spot) q (w .progress) z (g .stands) e;
+          stands = stands-moved t one count tooMany beginning (g .done) (w .spot) q (w .progress) z (g .stands) e;
           made = sym (ap (λ (s : Progress). s .made) same) ∙ g .made;
           bounded = h .0;
         };
@@ -208,21 +212,21 @@ module _ (t : Table) (p : Payload) (room : ℕ) where
         hands = sym (append-nil (readings t p (g .done)));
       })
   turned-by w g (met v q z) e f m =
-      let h = met-falls t one count exceeds f in
+      let h = met-falls t one count tooMany f in
       turned-on w g (shown t p (w .spot) (met v q z)) (met-on (shapeOf (t .field (v .field))) (readingOf t p v) v)
       (record {
         still = record {
           done = g .done ++ v ∷ [];
-          stands = stands-met t one count exceeds beginning (g .done) (w .spot) q v (w .progress) z (g .stands) e;
-          made = count-more w g v z (met-law t one count exceeds Makes makes (w .progress) m);
+          stands = stands-met t one count tooMany beginning (g .done) (w .spot) q v (w .progress) z (g .stands) e;
+          made = count-more w g v z (met-law t one count tooMany Makes makes (w .progress) m);
           bounded = h .0;
         };
         less = h .1;
         hands = readings-append t p (g .done) (v ∷ []) ∙ ap (λ (rs : List Reading). readings t p (g .done) ++ rs) (one-hands v);
       })
   turned-by w g (ended z) e f m =
-      let same = ended-law t one count exceeds Makes makes (w .progress) m in
-      let run = stands-ended t one count exceeds beginning (g .done) (w .spot) (w .progress) z (g .stands) e in
+      let same = ended-law t one count tooMany Makes makes (w .progress) m in
+      let run = stands-ended t one count tooMany beginning (g .done) (w .spot) (w .progress) z (g .stands) e in
       record {
         on = λ o. let y : _≡_ {A = ℕ} 0 1 = cc in absurd (omega arith);
         last = λ _. ap (λ (r : Run Span Progress DecodeRefusal). readings t p (spansOf r)) run ∙ done-all w g;
@@ -230,8 +234,8 @@ module _ (t : Table) (p : Payload) (room : ℕ) where
         stops = λ x o. let y : _≡_ {A = ℕ} 0 1 = cc in absurd (omega arith);
       }
   turned-by w g (broke b z) e f m =
-      let same = broke-law t one count exceeds Makes makes (w .progress) m in
-      let run = stands-broke t one count exceeds beginning (g .done) (w .spot) (w .progress) z b (g .stands) e in
+      let same = broke-law t one count tooMany Makes makes (w .progress) m in
+      let run = stands-broke t one count tooMany beginning (g .done) (w .spot) (w .progress) z b (g .stands) e in
       record {
         on = λ o. let y : _≡_ {A = ℕ} 0 1 = cc in absurd (omega arith);
         last = λ _. ap (λ (r : Run Span Progress DecodeRefusal). readings t p (spansOf r)) run ∙ done-all w g;
@@ -243,8 +247,8 @@ module _ (t : Table) (p : Payload) (room : ℕ) where
     pub turned : (w : Walk) (g : Going w) → Turned w g (nextOf t p room w)
     turned w g =
         turned-by w g (turnOf t p room (w .spot) (w .progress)) refl
-        (falls t one count exceeds (small t ok) (w .spot) (w .progress) (g .bounded))
-        (meets t one count exceeds Makes makes (w .spot) (w .progress))
+        (falls t one count tooMany (small t ok) (w .spot) (w .progress) (g .bounded))
+        (meets t one count tooMany Makes makes (w .spot) (w .progress))
 
     -- what was handed out and what the turns still hand out are all the readings
     handed-rest : (n : ℕ) (w : Walk) (g : Going w) → heft w < n → readings t p (g .done) ++ handedIn t p room n w ≡ all
@@ -263,7 +267,13 @@ module _ (t : Table) (p : Payload) (room : ℕ) where
             ∙ ap (λ (rs : List Reading). rs ++ handedIn t p room n (x .walk)) (sym (turned w g .on q .hands)) ∙ later q
         go false q later = append-nil (readings t p (g .done)) ∙ sym (turned w g .last q)
 
-    -- "A caller can go through all readings with the step alone": by an accepted table of c fields, c * 20,000 turns are more than it takes
+    -- a caller that goes by turns alone is handed all the readings: by an accepted table of c fields, c * 20,000 turns are enough
     pub handed-all : (n : ℕ) → t .count * 20000 < n → handedIn t p room n startOf ≡ all
     unfolding weight readings handedIn going
     handed-all n l = handed-rest n startOf going (omega arith)
+
+-- .. and these are the readings of the received payload: `prepare` said so, and what is walked through is the working payload
+pub handed-out : (t : Table) (received : List ℕ) (padded room n : ℕ) → preparedOf t (length received) padded ≡ Ready → t .count * 20000 < n
+    → handedIn t (payloadOf (workingOf t received)) room n startOf ≡ readingsOf t received padded room
+handed-out t received padded room n ready l =
+    handed-all t (payloadOf (workingOf t received)) room (readied t (length received) padded ready .table) n l ∙ ap (λ (r : Prepared). readInto r t (payloadOf (workingOf t received)) room) (sym ready)

@@ -33,7 +33,7 @@ use Rattle.reading.specs.declared.Progress.{Progress}
 use Rattle.fields.specs.Payload.{Payload, bitsLeft}
 use Rattle.fields.specs.Shapes.{shapeOf}
 use Rattle.fields.specs.Content.{fieldReadOf}
-use Rattle.reading.specs.Groups.{notedBy, elementCount, exceeds, groupCountOf}
+use Rattle.reading.specs.Groups.{notedBy, elementCount, tooMany, groupCountOf}
 use Rattle.reading.specs.Decode.{spanAt, progressAt, settled, oneOf, countOf, readingOf}
 use Rattle.reading.specs.Steps.{nextTo, metBy, metOf, shown}
 use Rattle.reading.proofs.Told.{told, gone}
@@ -109,18 +109,18 @@ module _ (t : Table) (p : Payload) (room : ℕ) (here : Spot) (s : Progress) whe
   one = oneOf t p room
 
   abbrev by : ℕ → Place → Turn Span Progress DecodeRefusal
-  by i q = turnBy t one (countOf t p) exceeds i q s
+  by i q = turnBy t one (countOf t p) tooMany i q s
 
   abbrev within : ℕ → ℕ → ℕ → ℕ → Turn Span Progress DecodeRefusal
-  within k n e j = turnWithin t one (countOf t p) exceeds k n e j s
+  within k n e j = turnWithin t one (countOf t p) tooMany k n e j s
 
   -- into a set
   abbrev pub enterSays : ℕ → GroupCount → Next
   enterSays k (group.Count n) = nextTo Moved (spot.Within k n 0 0) s
   enterSays k (group.Refused f) = nextTo (Refused f) here s
 
-  enter-in : (k n most : ℕ) (b : Bool) → enterSays k (pick b (group.Count n) (group.Refused (exceeds k n most)))
-      ≡ shown t p here (either b (moved (spot.Within k n 0 0) s) (broke (exceeds k n most) s))
+  enter-in : (k n most : ℕ) (b : Bool) → enterSays k (pick b (group.Count n) (group.Refused (tooMany k n most)))
+      ≡ shown t p here (either b (moved (spot.Within k n 0 0) s) (broke (tooMany k n most) s))
   unfolding either
   enter-in k n most true = refl
   enter-in k n most false = refl
@@ -164,7 +164,7 @@ module _ (t : Table) (p : Payload) (room : ℕ) (here : Spot) (s : Progress) whe
       ap (shown t p here) (either-false (ltb e n) (either (ltb j (t .set k .size)) (seen (spot.Within k n e (j + 1)) s (one (t .set k .start + j) (At e) false s)) (moved (spot.Within k n (e + 1) 0) s)) _ (le-ltb _ _ l))
 
   abbrev turned : Spot → Next
-  turned q = shown t p here (turn t one (countOf t p) exceeds q s)
+  turned q = shown t p here (turn t one (countOf t p) tooMany q s)
 
   pub turn-field : (i : ℕ) → i < t .count → shown t p here (by i (placeOf t i)) ≡ turned (spot.Field i)
   unfolding turn

@@ -27,7 +27,7 @@ use Rattle.reading.specs.declared.Decoded.the-variants as decoded
 use Rattle.fields.specs.Payload.{Payload, payloadOf, bitsLeft}
 use Rattle.fields.specs.Shapes.{shapeOf}
 use Rattle.fields.specs.Content.{rawIn, valueIn, availabilityOf, fieldReadOf}
-use Rattle.reading.specs.Groups.{notedBy, elementCount, exceeds}
+use Rattle.reading.specs.Groups.{notedBy, elementCount, tooMany}
 use Rattle.reading.specs.Filling.{workingOf, preparedOf}
 
 -- ## The walk
@@ -36,6 +36,7 @@ use Rattle.reading.specs.Filling.{workingOf, preparedOf}
 abbrev pub spanAt : ℕ → Element → ℕ → ℕ → Span
 spanAt i e at n = record { field = i; element = e; start = bits at; bits = bits n }
 
+-- the cursor, the readings made, the counters
 abbrev pub progressAt : ℕ → ℕ → List ℕ → Progress
 progressAt at made cs = record { at = bits at; made = made; counters = cs }
 
@@ -47,6 +48,7 @@ settled t room i e s (Got n raw value) =
 settled t room i e s (Skipped n) = hit (spanAt i e (s .at .0) (n .0)) (progressAt (s .at .0 + n .0) (s .made) (s .counters))
 settled t room i e s (Refused f) = miss f
 
+-- field i, of element e, where the walk has come to
 abbrev pub oneOf : Table → Payload → ℕ → ℕ → Element → Bool → Progress → One Span Progress DecodeRefusal
 oneOf t p room i e last s = settled t room i e s (fieldReadOf p (t .field i) i last (s .at .0))
 
@@ -54,11 +56,13 @@ oneOf t p room i e last s = settled t room i e s (fieldReadOf p (t .field i) i l
 abbrev pub countOf : Table → Payload → ℕ → Progress → ℕ
 countOf t p k s = elementCount t k (getD (s .counters) k 0) (bitsLeft p (s .at .0))
 
+-- no counter is asked before it is read: rule h, "a counter that precedes it"
 abbrev pub beginning : Progress
 beginning = progressAt 0 0 (replicate setMax 0)
 
+-- the whole walk
 abbrev pub walkOf : Table → Payload → ℕ → Run Span Progress DecodeRefusal
-walkOf t p room = walkFrom t (oneOf t p room) (countOf t p) exceeds beginning
+walkOf t p room = walkFrom t (oneOf t p room) (countOf t p) tooMany beginning
 
 -- ## The readings
 
@@ -104,6 +108,7 @@ decodedIn (prepared.Refused e) t p room = decoded.Refused e 0
 abbrev pub decodedOf : Table → List ℕ → ℕ → ℕ → Decoded
 decodedOf t received padded room = decodedIn (preparedOf t (length received) padded) t (payloadOf (workingOf t received)) room
 
+-- "7, 8, then the walk"
 abbrev pub readInto : Prepared → Table → Payload → ℕ → List Reading
 readInto prepared.Ready t p room = readings t p (spansOf (walkOf t p room))
 readInto (prepared.Refused e) t p room = []

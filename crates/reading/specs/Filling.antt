@@ -31,6 +31,7 @@ paddedOf t received padded = pick (fills t (length received)) (workingOf t recei
 abbrev pub pickedOf : Table → List ℕ → List ℕ → List ℕ
 pickedOf t received padded = pick (fills t (length received)) (take (t .length) padded) received
 
+-- refusal 8
 abbrev pub byCheck : Checked → Prepared
 byCheck checked.Accepted = Ready
 byCheck (checked.Refused rule index) = Refused (TableRefused rule index)

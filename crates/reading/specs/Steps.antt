@@ -1,4 +1,4 @@
--- One turn of the walk: what `next_field` answers; and what a caller that goes by it alone is handed.
+-- One turn of the walk of document 01, "Reading a payload": what `next_field` answers; and what a caller that goes by it alone is handed.
 use Prim.Native.Nat.{ℕ, zero, suc}
 use mathlib.Core.Bool.{Bool, true, false}
 use mathlib.Core.List.{List, [], _∷_, _++_}
@@ -19,7 +19,7 @@ use Rattle.reading.specs.declared.Answer.the-variants.{Met, Skipped, Mov
 use Rattle.reading.specs.declared.Next.{Next}
 use Rattle.fields.specs.Payload.{Payload}
 use Rattle.fields.specs.Shapes.{shapeOf}
-use Rattle.reading.specs.Groups.{exceeds}
+use Rattle.reading.specs.Groups.{tooMany}
 use Rattle.reading.specs.Decode.{oneOf, countOf, readingOf, beginning}
 
 abbrev pub walkAt : Spot → Progress → Walk
@@ -48,7 +48,7 @@ shown t p here (ended s) = nextTo Ended here s
 shown t p here (broke f s) = nextTo (Refused f) here s
 
 abbrev pub turnOf : Table → Payload → ℕ → Spot → Progress → Turn Span Progress DecodeRefusal
-turnOf t p room here s = turn t (oneOf t p room) (countOf t p) exceeds here s
+turnOf t p room here s = turn t (oneOf t p room) (countOf t p) tooMany here s
 
 -- `next_field`
 abbrev pub nextOf : Table → Payload → ℕ → Walk → Next

@@ -2,9 +2,9 @@
 //
 // Promise: `for_each_field` takes any words, payload, padding run and room, and answers exactly as
 // specs/Decode.antt says of the table that the words are: refusal 7 or 8; else the end and the number
-// of readings, or the refusal that ended the walk and the readings made before it. The padding run
+// of readings, or the refusal that ended the walk and the number of readings made before it. The padding run
 // holds at exit what specs/Filling.antt says. `next_field` takes one turn of the same walk and hands
-// out the reading: going by it alone, no reading is stored anywhere. No call has a `requires`.
+// out the reading: going by it alone, no reading is stored anywhere. No public call has a `requires`.
 //
 //     prepare               7 and 8, and fills the lent padding run where the table asks for it
 //     pad_to_min_length     the working payload: the received slice, or a part of the padding run

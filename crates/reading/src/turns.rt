@@ -8,7 +8,7 @@ ghost use Rattle.walking.specs.Turns.{seen as seenOf, turnBy, turnWithin, ended
 ghost use Rattle.fields.specs.Payload.{payloadOf};
 ghost use Rattle.fields.specs.Shapes.{shapeOf};
 ghost use Rattle.fields.specs.Content.{rawIn, valueIn};
-ghost use Rattle.reading.specs.Groups.{exceeds};
+ghost use Rattle.reading.specs.Groups.{tooMany};
 ghost use Rattle.reading.specs.Decode.{oneOf, countOf, readingOf};
 ghost use Rattle.reading.specs.Steps.{nextTo, shown, nextOf, startOf};
 use crate::Answer;
@@ -53,7 +53,7 @@ fn next(answer: Answer, spot: Spot, progress: Progress) -> Next
     Next { answer, walk }
 }
 
-// The reading of field i, which takes these bits.
+// The reading of a field met.
 fn reading_of(words: &[u64], s: &[u8], v: Span, raw: Raw, value: PgnValue) -> Reading
     requires { ⌜ (raw ≡ rawIn (shapeOf (tableOf (now words) .field (v .field))) (payloadOf (now s)) (v .start .0) (v .bits .0)) × (value ≡ valueIn (shapeOf (tableOf (now words) .field (v .field))) (tableOf (now words) .field (v .field)) (payloadOf (now s)) (v .start .0) (v .bits .0)) ⌝ }
     ensures { λ r. ⌜ r ≡ readingOf (tableOf (now (words .entry))) (payloadOf (now (s .entry))) v ⌝ }
@@ -135,7 +135,7 @@ fn see(
 
 // Into set k, if it has not too many elements.
 fn enter(words: &[u64], s: &[u8], room: usize, k: usize, p: Progress, here: Spot) -> Next
-    ensures { λ r. ⌜ r ≡ shown (tableOf (now (words .entry))) (payloadOf (now (s .entry))) here (turnBy (tableOf (now (words .entry))) (oneOf (tableOf (now (words .entry))) (payloadOf (now (s .entry))) room) (countOf (tableOf (now (words .entry))) (payloadOf (now (s .entry)))) exceeds 0 (place.Starts k) p) ⌝ }
+    ensures { λ r. ⌜ r ≡ shown (tableOf (now (words .entry))) (payloadOf (now (s .entry))) here (turnBy (tableOf (now (words .entry))) (oneOf (tableOf (now (words .entry))) (payloadOf (now (s .entry))) room) (countOf (tableOf (now (words .entry))) (payloadOf (now (s .entry)))) tooMany 0 (place.Starts k) p) ⌝ }
 {
     let at = p.at;
     let cs = p.counters;
@@ -159,7 +159,7 @@ fn enter(words: &[u64], s: &[u8], room: usize, k: usize, p: Progress, here: Spot
 // Field i, wherever it stands.
 fn at_field(words: &[u64], s: &[u8], room: usize, i: usize, p: Progress, here: Spot) -> Next
     requires { ⌜ i < 65536 ⌝ }
-    ensures { λ r. ⌜ r ≡ shown (tableOf (now (words .entry))) (payloadOf (now (s .entry))) here (turnBy (tableOf (now (words .entry))) (oneOf (tableOf (now (words .entry))) (payloadOf (now (s .entry))) room) (countOf (tableOf (now (words .entry))) (payloadOf (now (s .entry)))) exceeds i (placeOf (tableOf (now (words .entry))) i) p) ⌝ }
+    ensures { λ r. ⌜ r ≡ shown (tableOf (now (words .entry))) (payloadOf (now (s .entry))) here (turnBy (tableOf (now (words .entry))) (oneOf (tableOf (now (words .entry))) (payloadOf (now (s .entry))) room) (countOf (tableOf (now (words .entry))) (payloadOf (now (s .entry)))) tooMany i (placeOf (tableOf (now (words .entry))) i) p) ⌝ }
 {
     let to = Spot::Field(i + 1);
     match walking::place_at(words, i) {
@@ -184,7 +184,7 @@ fn within(
     p: Progress,
     here: Spot,
 ) -> Next
-    ensures { λ r. ⌜ r ≡ shown (tableOf (now (words .entry))) (payloadOf (now (s .entry))) here (turnWithin (tableOf (now (words .entry))) (oneOf (tableOf (now (words .entry))) (payloadOf (now (s .entry))) room) (countOf (tableOf (now (words .entry))) (payloadOf (now (s .entry)))) exceeds k n e j p) ⌝ }
+    ensures { λ r. ⌜ r ≡ shown (tableOf (now (words .entry))) (payloadOf (now (s .entry))) here (turnWithin (tableOf (now (words .entry))) (oneOf (tableOf (now (words .entry))) (payloadOf (now (s .entry))) room) (countOf (tableOf (now (words .entry))) (payloadOf (now (s .entry)))) tooMany k n e j p) ⌝ }
 {
     let set = tables::set_at(words, k);
     let start = set.start;

@@ -1,4 +1,4 @@
--- What walks: over any kind of visit, of state and of fault. Reading and writing both go by these.
+-- What walks, over any kind of visit, of state and of fault: document 01, "Reading a payload" and "Writing a payload", both go by these.
 use Prim.Native.Nat.{ℕ, zero, suc}
 use mathlib.Core.Bool.{Bool, true, false}
 use mathlib.Core.List.{List, [], _∷_, _++_}
@@ -9,10 +9,12 @@ pub data Run (W S F : Type 0) : Type 0 where
   stopped : List W → F → Run W S F
 
 module _ {W S F : Type 0} where
+  -- the fault where the test fails
   unfoldable pub guard : Bool → F → Run W S F → Run W S F
   guard true f w = w
   guard false f w = stopped [] f
 
+  -- what was met before comes first
   unfoldable pub after : List W → Run W S F → Run W S F
   after us (ran vs s) = ran (us ++ vs) s
   after us (stopped vs f) = stopped (us ++ vs) f

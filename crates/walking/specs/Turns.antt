@@ -1,4 +1,5 @@
--- The walk by single turns, from spot to spot: for callers that go through a payload field by field.
+-- The walk by single turns, from spot to spot: for callers that go through a payload field by field. It is no part of document 01: that
+-- it comes to the walk of specs/Walk.antt is `turn-law` of proofs/Machine.antt.
 use Prim.Native.Nat.{ℕ, suc, _+_}
 use mathlib.Core.Bool.{Bool, true, false}
 use lib.Dec.{eqb, leb, ltb}
@@ -30,6 +31,7 @@ module _ {W S F : Type 0} where
   seen p s (miss f) = broke f s
 
 module _ (t : Table) {W S F : Type 0} (one : ℕ → Element → Bool → S → One W S F) (count : ℕ → S → ℕ) (over : ℕ → ℕ → ℕ → F) where
+  -- at field i, by where it stands
   unfoldable pub turnBy : ℕ → Place → S → Turn W S F
   turnBy i (Starts k) s =
       either (leb (count k s) (t .set k .maximum)) (moved (Within k (count k s) 0 0) s) (broke (over k (count k s) (t .set k .maximum)) s)

@@ -23,6 +23,7 @@ module _ {W S F : Type 0} where
   check true f o = o
   check false f o = miss f
 
+  -- a walk of one field
   unfoldable pub lift : One W S F → Run W S F
   lift (hit v s) = ran (v ∷ []) s
   lift (miss f) = stopped [] f
@@ -32,6 +33,7 @@ unfoldable pub placeFrom : Table → ℕ → ℕ → ℕ → Place
 placeFrom t i k zero = pick (inSets t i (t .sets)) Inside Plain
 placeFrom t i k (suc n) = pick (eqb (t .set k .start) i) (Starts k) (placeFrom t i (suc k) n)
 
+-- where a field stands
 abbrev pub placeOf : Table → ℕ → Place
 placeOf t i = placeFrom t i 0 (t .sets)
 

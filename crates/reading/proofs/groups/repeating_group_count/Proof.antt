@@ -10,20 +10,20 @@ use borrow.Author.Tests.{eq-eqb, ne-eqb, le-leb, lt-leb}
 use lib.Dec.{leb}
 use Rattle.reading.specs.declared.GroupCount.{GroupCount}
 use Rattle.reading.specs.declared.GroupCount.the-variants.{Count, Refused}
-use Rattle.reading.specs.Groups.{elementCount, exceeds, groupCountOf}
+use Rattle.reading.specs.Groups.{elementCount, tooMany, groupCountOf}
 use borrow.Author.Needs.{needs}
 use Rattle.reading.proofs.groups.repeating_group_count.Statement.{statement}
 use Rattle.reading.proofs.groups.repeating_group_count.Tie as tie
 
 -- the answer over what was counted and the set that was read
 counted : (s : tie.After-set-at) {b : Bool} → let a = s .before .before .before .args in let n = s .before .element-count .result in let most = s .set-at .result .maximum in
-    leb n most ≡ b → pick b (Count n) (Refused (exceeds (a .k) n most)) ≡ groupCountOf (tableOf (now (a .words))) (a .k) (a .counter-raw) (a .bits-remaining .0)
+    leb n most ≡ b → pick b (Count n) (Refused (tooMany (a .k) n most)) ≡ groupCountOf (tableOf (now (a .words))) (a .k) (a .counter-raw) (a .bits-remaining .0)
 counted s h =
     let a = s .before .before .before .args in
     let n = s .before .element-count .result in
     let t = tableOf (now (a .words)) in
-    sym (ap (λ (b : Bool). pick b (Count n) (Refused (exceeds (a .k) n (s .set-at .result .maximum)))) h)
-    ∙ ap₂ (λ (x : ℕ) (g : RepeatingFieldSet). pick (leb x (g .maximum)) (Count x) (Refused (exceeds (a .k) x (g .maximum)))) (s .before .element-count .ensures) (s .set-at .ensures)
+    sym (ap (λ (b : Bool). pick b (Count n) (Refused (tooMany (a .k) n (s .set-at .result .maximum)))) h)
+    ∙ ap₂ (λ (x : ℕ) (g : RepeatingFieldSet). pick (leb x (g .maximum)) (Count x) (Refused (tooMany (a .k) x (g .maximum)))) (s .before .element-count .ensures) (s .set-at .ensures)
 
 element-count-requires : tie.Need-element-count-requires
 element-count-requires c κs = search needs

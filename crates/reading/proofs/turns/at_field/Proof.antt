@@ -7,7 +7,7 @@ use Rattle.fields.specs.Payload.{Payload, payloadOf, bitsLeft}
 use lib.Dec.{eqb}
 use Rattle.walking.specs.declared.Place.{Place}
 use Rattle.walking.specs.Turns.{turnBy}
-use Rattle.reading.specs.Groups.{exceeds}
+use Rattle.reading.specs.Groups.{tooMany}
 use Rattle.reading.specs.Decode.{oneOf, countOf}
 use Rattle.reading.specs.Steps.{shown}
 use Rattle.reading.proofs.Turned.{starts-any, by-inside, by-plain}
@@ -52,7 +52,7 @@ returns c =
     let t = tableOf (now (a .words)) in
     let p = payloadOf (now (a .s)) in
     c .enter .ensures ∙ starts-any t p (a .room) (a .here) (a .p) 0 (a .i) (d .k .given .0 .0)
-    ∙ ap (λ (x : Place). shown t p (a .here) (turnBy t (oneOf t p (a .room)) (countOf t p) exceeds (a .i) x (a .p))) (sym (d .k .given .1) ∙ d .before .before .place-at .ensures)
+    ∙ ap (λ (x : Place). shown t p (a .here) (turnBy t (oneOf t p (a .room)) (countOf t p) tooMany (a .i) x (a .p))) (sym (d .k .given .1) ∙ d .before .before .place-at .ensures)
 
 returns-2 : tie.Need-returns-2
 returns-2 c =
@@ -61,7 +61,7 @@ returns-2 c =
     let t = tableOf (now (a .words)) in
     let p = payloadOf (now (a .s)) in
     c .next .ensures ∙ by-inside t p (a .room) (a .here) (a .p) (a .i)
-    ∙ ap (λ (x : Place). shown t p (a .here) (turnBy t (oneOf t p (a .room)) (countOf t p) exceeds (a .i) x (a .p))) (sym (d .enum-told .given .1) ∙ d .before .before .place-at .ensures)
+    ∙ ap (λ (x : Place). shown t p (a .here) (turnBy t (oneOf t p (a .room)) (countOf t p) tooMany (a .i) x (a .p))) (sym (d .enum-told .given .1) ∙ d .before .before .place-at .ensures)
 
 returns-3 : tie.Need-returns-3
 returns-3 c =
@@ -70,7 +70,7 @@ returns-3 c =
     let t = tableOf (now (a .words)) in
     let p = payloadOf (now (a .s)) in
     c .see .ensures ∙ by-plain t p (a .room) (a .here) (a .p) (a .i) _ (ap (eqb (a .i + 1)) (c .before .field-count .ensures))
-    ∙ ap (λ (x : Place). shown t p (a .here) (turnBy t (oneOf t p (a .room)) (countOf t p) exceeds (a .i) x (a .p))) (sym (d .enum-told2 .given .1) ∙ d .before .before .place-at .ensures)
+    ∙ ap (λ (x : Place). shown t p (a .here) (turnBy t (oneOf t p (a .room)) (countOf t p) tooMany (a .i) x (a .p))) (sym (d .enum-told2 .given .1) ∙ d .before .before .place-at .ensures)
 
 pub at-field-spec : {M : Type 1} → statement M
 at-field-spec =
