@@ -3,6 +3,7 @@
 use denote.Ref.{now}
 use Rattle.one_answer.proofs.Fixes.{Fixes, fixed}
 use Rattle.samopute_c.proofs.checking.samopute_check.Reads as check
+use Rattle.samopute_c.proofs.values.word_of.Reads as word-of
 use Rattle.samopute_c.proofs.reading.samopute_read_u64.Reads as read-u64
 use Rattle.samopute_c.proofs.reading.samopute_read_u32.Reads as read-u32
 use Rattle.samopute_c.proofs.reading.samopute_read_u16.Reads as read-u16
@@ -137,3 +138,6 @@ one-check = fixed (λ κs a x s p. p .0)
 
 told-check : Fixes check.Post (λ κs x s. now (s .1 .0))
 told-check = fixed (λ κs a x s p. p .1)
+
+one-word-of : Fixes word-of.Post (λ κs x s. x)
+one-word-of = fixed (λ κs a x s p. p)

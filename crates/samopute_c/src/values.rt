@@ -50,7 +50,7 @@ fn twos(z: i64) -> u64
     0xffff_ffff_ffff_ffff - (size - 1)
 }
 
-pub(crate) fn word_of(value: PgnValue) -> u64
+pub fn word_of(value: PgnValue) -> u64
     ensures { λ r. ⌜ r ≡ wordOf value ⌝ }
 {
     match value {

@@ -33,62 +33,69 @@ fn glyph(d: u64) -> u8
     if d < 10 { 48 + d as u8 } else { 55 + d as u8 }
 }
 
-// The digits of n at the end of text, which has room for the 20 of the largest. Answers where they
-// start.
-fn spell(n: u64, text: &mut [u8]) -> usize
-    requires { ⌜ length (now text) ≡ 20 ⌝ }
-    ensures { λ r. ⌜ r ≤ 20 ⌝ }
+// Puts the digits of n, of which there are `count`, from the last to the first.
+fn spell(out: &mut [u8], at: usize, n: u64, base: u64, count: usize)
+    requires { ⌜ (at + count ≤ length (now out)) × (0 < base) × (base ≤ 16) ⌝ }
 {
-    let mut i: usize = 19;
-    let mut rest = n / 10;
-    text[19] = glyph(n % 10);
-    while 0 < i && 0 < rest {
+    let mut i = count;
+    let mut rest = n;
+    while 0 < i {
         i -= 1;
-        text[i] = glyph(rest % 10);
-        rest /= 10;
+        out[at + i] = glyph(rest % base);
+        rest /= base;
     }
-    i
 }
 
-// n in decimal.
+// How many digits n has in decimal.
+fn decimal_digits(n: u64) -> usize
+    ensures { λ r. ⌜ r ≤ 20 ⌝ }
+{
+    let mut count: usize = 1;
+    let mut rest = n / 10;
+    while count < 20 && 0 < rest {
+        rest /= 10;
+        count += 1;
+    }
+    count
+}
+
+// n in decimal. Most numbers have a digit or two.
 pub fn put_decimal(out: &mut [u8], at: usize, n: usize) -> usize
     requires { ⌜ at + 20 ≤ length (now out) ⌝ }
     ensures { λ r. ⌜ r ≤ at + 20 ⌝ }
 {
-    let mut text = [0u8; 20];
-    let from = spell(n as u64, &mut text);
-    put_text(out, at, &text[from..20])
-}
-
-// A zero in front of a number is not shown: one that is neither the last digit nor behind another.
-fn is_shown(d: u64, before: usize, i: u32) -> bool {
-    d != 0 || before != 0 || i == 15
-}
-
-// The digit d, unless it is not shown.
-fn put_digit(out: &mut [u8], at: usize, d: u64, before: usize, i: u32) -> usize
-    requires { ⌜ (d < 16) × (at < length (now out)) ⌝ }
-    ensures { λ r. ⌜ (at ≤ r) × (r ≤ at + 1) ⌝ }
-{
-    if is_shown(d, before, i) {
-        return put(out, at, glyph(d));
+    let v = n as u64;
+    if v < 10 {
+        return put(out, at, glyph(v));
     }
-    at
+    if v < 100 {
+        let a = put(out, at, glyph(v / 10));
+        return put(out, a, glyph(v % 10));
+    }
+    let count = decimal_digits(v);
+    spell(out, at, v, 10, count);
+    at + count
 }
 
-// v in hexadecimal, from the top digit down.
+// How many digits v has in hexadecimal.
+fn hex_digits(v: u64) -> usize
+    ensures { λ r. ⌜ r ≤ 16 ⌝ }
+{
+    if v < 16 {
+        return 1;
+    }
+    let zeros = u64::leading_zeros(v);
+    (16 - zeros % 65 / 4) as usize
+}
+
+// v in hexadecimal.
 pub fn put_hex(out: &mut [u8], at: usize, v: u64) -> usize
     requires { ⌜ at + 16 ≤ length (now out) ⌝ }
     ensures { λ r. ⌜ r ≤ at + 16 ⌝ }
 {
-    let mut to = at;
-    let mut i: u32 = 0;
-    while i < 16 {
-        let d = (v >> (60 - 4 * i)) % 16;
-        to = put_digit(out, to, d, to - at, i);
-        i += 1;
-    }
-    to
+    let count = hex_digits(v);
+    spell(out, at, v, 16, count);
+    at + count
 }
 
 pub fn wide(x: u8) -> u64
@@ -98,7 +105,7 @@ pub fn wide(x: u8) -> u64
 }
 
 // The bytes of s, two digits each.
-fn put_pairs(out: &mut [u8], at: usize, s: &[u8]) -> usize
+pub fn put_pairs(out: &mut [u8], at: usize, s: &[u8]) -> usize
     requires { ⌜ at + length (now s) * 2 ≤ length (now out) ⌝ }
     ensures { λ r. ⌜ r ≡ at + length (now (s .entry)) * 2 ⌝ }
 {

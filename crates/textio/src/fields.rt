@@ -1,6 +1,7 @@
 // The fields of a line, which one space sets apart: numbers in decimal, numbers and bytes in capital
 // hexadecimal. Each reading says in `good` whether the field has its form; the rest counts only then.
-ghost use Prim.Native.Nat.{_+_, _<_, _≤_};
+ghost use Prim.Native.Nat.{_≤_};
+ghost use mathlib.Core.Path.{_≡_};
 ghost use lib.ListN.{length};
 
 const DECIMAL_DIGITS: usize = 20;
@@ -27,19 +28,27 @@ pub struct Run {
     pub len: usize,
 }
 
-// Where the field that starts at `from` ends: at the next space, or at the line's end.
-pub fn field_end(s: &[u8], from: usize) -> usize
+// Where the part that starts at `from` ends: at the next mark, or at the line's end.
+fn part_end(s: &[u8], from: usize, mark: u8) -> usize
     requires { ⌜ from ≤ length (now s) ⌝ }
     ensures { λ r. ⌜ (from ≤ r) × (r ≤ length (now (s .entry))) ⌝ }
 {
     let mut i = from;
     while i < s.len() {
-        if s[i] == b' ' {
+        if s[i] == mark {
             return i;
         }
         i += 1;
     }
     i
+}
+
+// Where the field that starts at `from` ends: at the next space, or at the line's end.
+pub fn field_end(s: &[u8], from: usize) -> usize
+    requires { ⌜ from ≤ length (now s) ⌝ }
+    ensures { λ r. ⌜ (from ≤ r) × (r ≤ length (now (s .entry))) ⌝ }
+{
+    part_end(s, from, b' ')
 }
 
 // The value of a hexadecimal digit, or NO_DIGIT.
@@ -112,8 +121,31 @@ pub fn hex(s: &[u8]) -> Number {
     }
 }
 
+// Numbers of 1 to 16 digits, set apart by a mark, at the start of `words`. Where there are more than
+// it has room for there are none.
+pub fn words(s: &[u8], mark: u8, words: &mut [u64]) -> Run
+    ensures { λ r. ⌜ r .len ≤ length (now («words» .entry)) ⌝ }
+{
+    let mut n: usize = 0;
+    let mut from: usize = 0;
+    while n < words.len() {
+        let end = part_end(s, from, mark);
+        let word = hex(&s[from..end]);
+        if !word.good {
+            return no_run();
+        }
+        words[n] = word.value;
+        n += 1;
+        if end == s.len() {
+            return Run { good: true, len: n };
+        }
+        from = end + 1;
+    }
+    no_run()
+}
+
 fn no_run() -> Run
-    ensures { λ r. ⌜ r .len ≤ 256 ⌝ }
+    ensures { λ r. ⌜ r .len ≡ 0 ⌝ }
 {
     Run {
         good: false,

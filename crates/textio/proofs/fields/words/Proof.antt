@@ -1,23 +1,23 @@
--- `tablecalls::words_of` meets its contract. The invariant: the next word starts within the line, and `words` keeps its length. Assumes nothing.
+-- `fields::words` meets its contract. The invariant: the next word starts within the line, and `words` keeps its length. Assumes nothing.
 use Prim.Native.Nat.{_-_, _≤_}
 use mathlib.Core.Path.{_≡_}
 use borrow.Author.Needs.{needs}
 use native.Mathlib.Omega.{arith}
 use lib.ListN.{length, length-set}
-use Rattle.tablecalls.proofs.replies.words_of.Statement.{statement}
-use Rattle.tablecalls.proofs.replies.words_of.Tie as tie
+use Rattle.textio.proofs.fields.words.Statement.{statement}
+use Rattle.textio.proofs.fields.words.Tie as tie
 
 abbrev Inv-loop : tie.InvT-loop
-Inv-loop s words₀ n₀ from₀ words n from = (n ≤ 200) × ((from ≤ length s) × (length words ≡ 200))
+Inv-loop s mark words₀ n₀ from₀ words n from = (n ≤ length words₀) × ((from ≤ length s) × (length words ≡ length words₀))
 
 abbrev μ-loop : tie.MeasureT-loop
-μ-loop s words₀ n₀ from₀ words n from = 200 - n
+μ-loop s mark words₀ n₀ from₀ words n from = length words₀ - n
 
 loop-holds : tie.Need-loop-holds Inv-loop μ-loop
 loop-holds c = search needs
 
-field-end-requires : tie.Need-field-end-requires Inv-loop μ-loop
-field-end-requires c κs = search needs
+part-end-requires : tie.Need-part-end-requires Inv-loop μ-loop
+part-end-requires c κs = search needs
 
 sub-hex : tie.Need-sub-hex Inv-loop μ-loop
 sub-hex c = search needs
@@ -73,14 +73,14 @@ same-length-3 c = search needs
 returns-3 : tie.Need-returns-3 Inv-loop μ-loop
 returns-3 c = search needs
 
-pub words-of-spec : {M : Type 1} → statement M
-words-of-spec =
+pub words-spec : {M : Type 1} → statement M
+words-spec =
     tie.close
     (tie.spec
     Inv-loop
     μ-loop
     loop-holds
-    field-end-requires
+    part-end-requires
     sub-hex
     part-hex-start
     part-hex-end

@@ -1,15 +1,15 @@
--- `textio::field_end` meets its contract. The invariant: `i` lies between `from` and the length. Assumes nothing.
+-- `textio::part_end` meets its contract. The invariant: `i` lies between `from` and the length. Assumes nothing.
 use Prim.Native.Nat.{_-_, _≤_}
 use borrow.Author.Needs.{needs}
 use lib.ListN.{length}
-use Rattle.textio.proofs.fields.field_end.Statement.{statement}
-use Rattle.textio.proofs.fields.field_end.Tie as tie
+use Rattle.textio.proofs.fields.part_end.Statement.{statement}
+use Rattle.textio.proofs.fields.part_end.Tie as tie
 
 abbrev Inv-loop : tie.InvT-loop
-Inv-loop s from i₀ i = (from ≤ i) × (i ≤ length s)
+Inv-loop s from mark i₀ i = (from ≤ i) × (i ≤ length s)
 
 abbrev μ-loop : tie.MeasureT-loop
-μ-loop s from i₀ i = length s - i
+μ-loop s from mark i₀ i = length s - i
 
 loop-holds : tie.Need-loop-holds Inv-loop μ-loop
 loop-holds c = search needs
@@ -32,8 +32,8 @@ loop-again c = search needs
 returns-2 : tie.Need-returns-2 Inv-loop μ-loop
 returns-2 c = search needs
 
-pub field-end-spec : {M : Type 1} → statement M
-field-end-spec =
+pub part-end-spec : {M : Type 1} → statement M
+part-end-spec =
     tie.close
     (tie.spec
     Inv-loop
