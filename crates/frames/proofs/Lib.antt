@@ -1,0 +1,5 @@
+mod Counting
+mod Digits
+mod Exact
+mod Feeding
+mod OneAnswer

@@ -1,0 +1,85 @@
+-- `walks::turn` meets its contract: the answer of `next_field`, by the table of the message that the arm knows. Assumes nothing.
+use Prim.Native.Nat.{ℕ}
+use mathlib.Core.Path.{_≡_, sym, ap, _∙_}
+use mathlib.Core.List.{List}
+use borrow.Author.Needs.{needs}
+use Rattle.tables.specs.Table.{tableOf}
+use Rattle.fields.specs.Payload.{payloadOf}
+use Rattle.reading.specs.declared.Walk.{Walk}
+use Rattle.reading.specs.Steps.{nextOf}
+use Rattle.frames.specs.declared.Message.{Message}
+use Rattle.frames.specs.Frames.{wordsOf}
+use Rattle.frames.proofs.walks.turn.Statement.{statement}
+use Rattle.frames.proofs.walks.turn.Tie as tie
+
+told : (payload : List ℕ) (walk : Walk) {m k : Message} → m ≡ k → nextOf (tableOf (wordsOf k)) (payloadOf payload) 256 walk ≡ nextOf (tableOf (wordsOf m)) (payloadOf payload) 256 walk
+told payload walk e = ap (λ (m : Message). nextOf (tableOf (wordsOf m)) (payloadOf payload) 256 walk) (sym e)
+
+enum-told : tie.Need-enum-told
+enum-told c = search needs
+
+slice-aggregate-next-field : tie.Need-slice-aggregate-next-field
+slice-aggregate-next-field c = search needs
+
+next-field-requires : tie.Need-next-field-requires
+next-field-requires c κs = search needs
+
+enum-told-2 : tie.Need-enum-told-2
+enum-told-2 c = search needs
+
+slice-aggregate-next-field-2 : tie.Need-slice-aggregate-next-field-2
+slice-aggregate-next-field-2 c = search needs
+
+next-field-requires-2 : tie.Need-next-field-requires-2
+next-field-requires-2 c κs = search needs
+
+enum-told-3 : tie.Need-enum-told-3
+enum-told-3 c = search needs
+
+slice-aggregate-next-field-3 : tie.Need-slice-aggregate-next-field-3
+slice-aggregate-next-field-3 c = search needs
+
+next-field-requires-3 : tie.Need-next-field-requires-3
+next-field-requires-3 c κs = search needs
+
+enum-told-4 : tie.Need-enum-told-4
+enum-told-4 c = search needs
+
+slice-aggregate-next-field-4 : tie.Need-slice-aggregate-next-field-4
+slice-aggregate-next-field-4 c = search needs
+
+next-field-requires-4 : tie.Need-next-field-requires-4
+next-field-requires-4 c κs = search needs
+
+returns : tie.Need-returns
+returns c = c .next-field .ensures ∙ told (c .before .before .before .before .before .args .payload .now) (c .before .before .before .before .before .args .walk) (c .before .before .enum-told .given .1)
+
+returns-2 : tie.Need-returns-2
+returns-2 c = c .next-field2 .ensures ∙ told (c .before .before .before .before .before .args .payload .now) (c .before .before .before .before .before .args .walk) (c .before .before .enum-told2 .given .1)
+
+returns-3 : tie.Need-returns-3
+returns-3 c = c .next-field3 .ensures ∙ told (c .before .before .before .before .before .args .payload .now) (c .before .before .before .before .before .args .walk) (c .before .before .enum-told3 .given .1)
+
+returns-4 : tie.Need-returns-4
+returns-4 c = c .next-field4 .ensures ∙ told (c .before .before .before .before .before .args .payload .now) (c .before .before .before .before .before .args .walk) (c .before .before .enum-told4 .given .1)
+
+pub turn-spec : {M : Type 1} → statement M
+turn-spec =
+    tie.close
+    (tie.spec
+    enum-told
+    slice-aggregate-next-field
+    next-field-requires
+    enum-told-2
+    slice-aggregate-next-field-2
+    next-field-requires-2
+    enum-told-3
+    slice-aggregate-next-field-3
+    next-field-requires-3
+    enum-told-4
+    slice-aggregate-next-field-4
+    next-field-requires-4
+    returns
+    returns-2
+    returns-3
+    returns-4)

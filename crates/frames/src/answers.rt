@@ -1,0 +1,182 @@
+// The lines of an answer, without their newlines. As in `textio`, each function asks for the room of
+// its longest text and answers where the text ends.
+ghost use Prim.Native.Nat.{_+_, _≤_};
+ghost use lib.ListN.{length};
+use descriptor::Availability;
+use descriptor::PgnBytes;
+use descriptor::PgnValue;
+use fields::DecodeRefusal;
+use fields::Raw;
+use reading::Reading;
+use textio::put;
+use textio::put_bytes;
+use textio::put_decimal;
+use textio::put_hex;
+use textio::put_number;
+use textio::put_text;
+use walking::Element;
+
+// A PGN in its six digits.
+fn put_pgn(out: &mut [u8], at: usize, pgn: u32) -> usize
+    requires { ⌜ at + 513 ≤ length (now out) ⌝ }
+    ensures { λ r. ⌜ r ≤ at + 513 ⌝ }
+{
+    let high = (pgn / 0x1_0000 % 256) as u8;
+    let middle = (pgn / 256 % 256) as u8;
+    let low = (pgn % 256) as u8;
+    put_bytes(out, at, &[high, middle, low])
+}
+
+// No message has the PGN: 15.
+pub(crate) fn put_unknown(out: &mut [u8], at: usize, pgn: u32) -> usize
+    requires { ⌜ at + 518 ≤ length (now out) ⌝ }
+    ensures { λ r. ⌜ r ≤ at + 518 ⌝ }
+{
+    let a = put_text(out, at, b"F 15 ");
+    put_pgn(out, a, pgn)
+}
+
+// The frame: its PGN and the bytes received.
+pub(crate) fn put_frame(out: &mut [u8], at: usize, pgn: u32, received: usize) -> usize
+    requires { ⌜ at + 536 ≤ length (now out) ⌝ }
+    ensures { λ r. ⌜ r ≤ at + 536 ⌝ }
+{
+    let a = put_text(out, at, b"P ");
+    let b = put_pgn(out, a, pgn);
+    put_number(out, b, received)
+}
+
+// The element that a field stands in, if it does.
+fn put_element(out: &mut [u8], at: usize, e: Element) -> usize
+    requires { ⌜ at + 21 ≤ length (now out) ⌝ }
+    ensures { λ r. ⌜ r ≤ at + 21 ⌝ }
+{
+    match e {
+        Element::At(k) => put_number(out, at, k),
+        Element::Outside => put_text(out, at, b" -"),
+    }
+}
+
+fn put_availability(out: &mut [u8], at: usize, a: Availability) -> usize
+    requires { ⌜ at + 3 ≤ length (now out) ⌝ }
+    ensures { λ r. ⌜ r ≤ at + 3 ⌝ }
+{
+    match a {
+        Availability::Available => put_text(out, at, b" A "),
+        Availability::NotAvailable => put_text(out, at, b" N "),
+    }
+}
+
+// Where text or bytes stand: PLACE:LENGTH.
+pub fn put_place(out: &mut [u8], at: usize, b: PgnBytes) -> usize
+    requires { ⌜ at + 41 ≤ length (now out) ⌝ }
+    ensures { λ r. ⌜ r ≤ at + 41 ⌝ }
+{
+    let start = b.start.0;
+    let len = b.len.0;
+    let a = put_decimal(out, at, start);
+    let c = put(out, a, b':');
+    put_decimal(out, c, len)
+}
+
+// A value without a raw is always text or bytes.
+fn put_bytes_at(out: &mut [u8], at: usize, value: PgnValue) -> usize
+    requires { ⌜ at + 41 ≤ length (now out) ⌝ }
+    ensures { λ r. ⌜ r ≤ at + 41 ⌝ }
+{
+    match value {
+        PgnValue::Bytes(b) => put_place(out, at, b),
+        _ => put(out, at, b'-'),
+    }
+}
+
+// The raw in as few digits as it needs, or where the text or the bytes stand.
+fn put_raw(out: &mut [u8], at: usize, raw: Raw, value: PgnValue) -> usize
+    requires { ⌜ at + 41 ≤ length (now out) ⌝ }
+    ensures { λ r. ⌜ r ≤ at + 41 ⌝ }
+{
+    match raw {
+        Raw::Number(n) => put_hex(out, at, n),
+        Raw::Absent => put_bytes_at(out, at, value),
+    }
+}
+
+// What every line of a reading begins with, up to the raw.
+pub fn put_head(out: &mut [u8], at: usize, r: Reading) -> usize
+    requires { ⌜ at + 88 ≤ length (now out) ⌝ }
+    ensures { λ r. ⌜ r ≤ at + 88 ⌝ }
+{
+    let element = r.element;
+    let start = r.start.0;
+    let bits = r.bits.0;
+    let availability = r.availability;
+    let a = put(out, at, b'R');
+    let b = put_number(out, a, r.field);
+    let c = put_element(out, b, element);
+    let d = put_number(out, c, start);
+    let e = put_number(out, d, bits);
+    put_availability(out, e, availability)
+}
+
+pub(crate) fn put_reading(out: &mut [u8], at: usize, r: Reading) -> usize
+    requires { ⌜ at + 129 ≤ length (now out) ⌝ }
+    ensures { λ r. ⌜ r ≤ at + 129 ⌝ }
+{
+    let raw = r.raw;
+    let value = r.value;
+    let a = put_head(out, at, r);
+    put_raw(out, a, raw, value)
+}
+
+// The end, in bits.
+pub(crate) fn put_end(out: &mut [u8], at: usize, end: usize) -> usize
+    requires { ⌜ at + 22 ≤ length (now out) ⌝ }
+    ensures { λ r. ⌜ r ≤ at + 22 ⌝ }
+{
+    let a = put(out, at, b'E');
+    put_number(out, a, end)
+}
+
+// What a refusal carries at place i, if it carries that many values.
+fn put_carried(out: &mut [u8], at: usize, e: DecodeRefusal, i: usize) -> usize
+    requires { ⌜ at + 21 ≤ length (now out) ⌝ }
+    ensures { λ r. ⌜ r ≤ at + 21 ⌝ }
+{
+    if i < e.carried_count() {
+        return put_number(out, at, e.carried(i));
+    }
+    at
+}
+
+// The first value that a refusal carries. Refusal 8 carries a rule, which has a letter.
+fn put_first_carried(out: &mut [u8], at: usize, e: DecodeRefusal) -> usize
+    requires { ⌜ at + 21 ≤ length (now out) ⌝ }
+    ensures { λ r. ⌜ r ≤ at + 21 ⌝ }
+{
+    match e {
+        DecodeRefusal::TableRefused { rule, index: _ } => {
+            let a = put(out, at, b' ');
+            put(out, a, letter(rule))
+        }
+        _ => put_carried(out, at, e, 0),
+    }
+}
+
+// The rule's letter, a to h.
+fn letter(rule: tables::TableRule) -> u8 {
+    let place = rule.letter();
+    (96 + place % 16) as u8
+}
+
+// The decode was refused: F, its number and what it carries. None carries more than three values.
+pub fn put_refusal(out: &mut [u8], at: usize, e: DecodeRefusal) -> usize
+    requires { ⌜ at + 85 ≤ length (now out) ⌝ }
+    ensures { λ r. ⌜ r ≤ at + 85 ⌝ }
+{
+    let a = put(out, at, b'F');
+    let number = e.number();
+    let b = put_number(out, a, number as usize);
+    let c = put_first_carried(out, b, e);
+    let d = put_carried(out, c, e, 1);
+    put_carried(out, d, e, 2)
+}

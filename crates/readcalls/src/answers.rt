@@ -1,0 +1,135 @@
+// The lines of an answer, without their newlines. As in `textio`, each function asks for the room of
+// its longest text and answers where the text ends.
+ghost use Prim.Native.Nat.{_+_, _≤_};
+ghost use lib.ListN.{length};
+use descriptor::Encoding;
+use descriptor::PgnBytes;
+use descriptor::PgnValue;
+use fields::Raw;
+use reading::Decoded;
+use reading::Reading;
+use textio::put;
+use textio::put_hex;
+use textio::put_number;
+use textio::put_pairs;
+use textio::put_text;
+use textio::put_value;
+
+// What the padding run holds where no call has written.
+pub(crate) const UNTOUCHED: u8 = 0xa5;
+
+fn put_raw(out: &mut [u8], at: usize, raw: Raw) -> usize
+    requires { ⌜ at + 16 ≤ length (now out) ⌝ }
+    ensures { λ r. ⌜ r ≤ at + 16 ⌝ }
+{
+    match raw {
+        Raw::Number(n) => put_hex(out, at, n),
+        Raw::Absent => put(out, at, b'-'),
+    }
+}
+
+fn put_kind(out: &mut [u8], at: usize, value: PgnValue) -> usize
+    requires { ⌜ at + 7 ≤ length (now out) ⌝ }
+    ensures { λ r. ⌜ r ≤ at + 7 ⌝ }
+{
+    match value {
+        PgnValue::U64(_) => put_text(out, at, b" U64"),
+        PgnValue::U32(_) => put_text(out, at, b" U32"),
+        PgnValue::U16(_) => put_text(out, at, b" U16"),
+        PgnValue::U8(_) => put_text(out, at, b" U8"),
+        PgnValue::I64(_) => put_text(out, at, b" I64"),
+        PgnValue::I32(_) => put_text(out, at, b" I32"),
+        PgnValue::I16(_) => put_text(out, at, b" I16"),
+        PgnValue::I8(_) => put_text(out, at, b" I8"),
+        PgnValue::F64(_) => put_text(out, at, b" F64"),
+        PgnValue::F32(_) => put_text(out, at, b" F32"),
+        PgnValue::Bytes(_) => put_text(out, at, b" Bytes "),
+    }
+}
+
+fn put_encoding(out: &mut [u8], at: usize, e: Encoding) -> usize
+    requires { ⌜ at + 3 ≤ length (now out) ⌝ }
+    ensures { λ r. ⌜ r ≤ at + 3 ⌝ }
+{
+    match e {
+        Encoding::Byte(b) => {
+            let a = put(out, at, b' ');
+            put_pairs(out, a, &[b])
+        }
+        Encoding::Absent => put_text(out, at, b" -"),
+    }
+}
+
+fn put_place(out: &mut [u8], at: usize, b: PgnBytes) -> usize
+    requires { ⌜ at + 44 ≤ length (now out) ⌝ }
+    ensures { λ r. ⌜ r ≤ at + 44 ⌝ }
+{
+    let encoding = b.encoding;
+    let a = frames::put_place(out, at, b);
+    put_encoding(out, a, encoding)
+}
+
+// The value: a number by its 64 bits, text and bytes by their place.
+fn put_content(out: &mut [u8], at: usize, value: PgnValue) -> usize
+    requires { ⌜ at + 44 ≤ length (now out) ⌝ }
+    ensures { λ r. ⌜ r ≤ at + 44 ⌝ }
+{
+    match value {
+        PgnValue::Bytes(b) => put_place(out, at, b),
+        _ => put_value(out, at, samopute_c::word_of(value)),
+    }
+}
+
+pub(crate) fn put_reading(out: &mut [u8], at: usize, r: Reading) -> usize
+    requires { ⌜ at + 1000 ≤ length (now out) ⌝ }
+    ensures { λ r. ⌜ r ≤ at + 1000 ⌝ }
+{
+    let raw = r.raw;
+    let value = r.value;
+    let a = frames::put_head(out, at, r);
+    let b = put_raw(out, a, raw);
+    let c = put_kind(out, b, value);
+    put_content(out, c, value)
+}
+
+// The end and the count, or the refusal.
+pub(crate) fn put_decoded(out: &mut [u8], at: usize, d: Decoded) -> usize
+    requires { ⌜ at + 1000 ≤ length (now out) ⌝ }
+    ensures { λ r. ⌜ r ≤ at + 1000 ⌝ }
+{
+    match d {
+        Decoded::Ended { end, count } => {
+            let a = put(out, at, b'E');
+            let b = put_number(out, a, end.0);
+            put_number(out, b, count)
+        }
+        Decoded::Refused { refusal, count: _ } => frames::put_refusal(out, at, refusal),
+    }
+}
+
+// How many bytes there are up to the last that is not A5.
+fn touched(run: &[u8]) -> usize
+    ensures { λ r. ⌜ r ≤ length (now (run .entry)) ⌝ }
+{
+    let mut n = run.len();
+    while 0 < n {
+        if run[n - 1] != UNTOUCHED {
+            return n;
+        }
+        n -= 1;
+    }
+    0
+}
+
+// The padding run.
+pub(crate) fn put_run(out: &mut [u8], at: usize, run: &[u8]) -> usize
+    requires { ⌜ (length (now run) ≤ 300) × (at + 1000 ≤ length (now out)) ⌝ }
+    ensures { λ r. ⌜ r ≤ at + 1000 ⌝ }
+{
+    let n = touched(run);
+    if n == 0 {
+        return put_text(out, at, b"D -");
+    }
+    let a = put_text(out, at, b"D ");
+    put_pairs(out, a, &run[0..n])
+}
