@@ -4,8 +4,10 @@ mod carried;
 mod case;
 mod cases;
 mod compare;
+mod frames;
 mod numbers;
 mod random;
+mod readings;
 mod report;
 mod samopute;
 mod sample;
@@ -13,13 +15,19 @@ mod sides;
 mod stand_ins;
 mod tables;
 
+use readings::lines::{Side, answer_input};
+use readings::program::Program;
 use report::Report;
 use std::process::ExitCode;
 
 const USAGE: &str = "usage: driver compare [--quick] | compare-numbers [--quick] \
                      | compare-tables [--quick] \
+                     | compare-readings [--quick] [--program PATH] \
                      | sample --cases | sample --answers \
                      | sample-numbers --cases | sample-numbers --answers \
+                     | sample-readings --cases | sample-readings --answers \
+                     | sample-frames --cases | sample-frames --answers \
+                     | answer-readings [--stand-ins | --rust] \
                      | bench | bench-tables";
 
 fn main() -> ExitCode {
@@ -32,6 +40,14 @@ fn main() -> ExitCode {
         ["compare-numbers", "--quick"] => compare_numbers(true),
         ["compare-tables"] => compare_tables(false),
         ["compare-tables", "--quick"] => compare_tables(true),
+        ["compare-readings"] => compare_readings(false, None),
+        ["compare-readings", "--quick"] => compare_readings(true, None),
+        ["compare-readings", "--program", path] => compare_readings(false, Some(path)),
+        ["compare-readings", "--quick", "--program", path]
+        | ["compare-readings", "--program", path, "--quick"] => compare_readings(true, Some(path)),
+        ["answer-readings"] => answer_input(Side::Model),
+        ["answer-readings", "--stand-ins"] => answer_input(Side::Standin),
+        ["answer-readings", "--rust"] => answer_input(Side::Rust),
         ["sample", "--cases"] => {
             sample::print_cases();
             true
@@ -46,6 +62,22 @@ fn main() -> ExitCode {
         }
         ["sample-numbers", "--answers"] => {
             numbers::sample::print_answers();
+            true
+        }
+        ["sample-readings", "--cases"] => {
+            readings::sample::print_cases();
+            true
+        }
+        ["sample-readings", "--answers"] => {
+            readings::sample::print_answers();
+            true
+        }
+        ["sample-frames", "--cases"] => {
+            frames::print_cases();
+            true
+        }
+        ["sample-frames", "--answers"] => {
+            frames::print_answers();
             true
         }
         ["bench"] => {
@@ -75,6 +107,8 @@ fn compare_all(quick: bool) -> bool {
     numbers::compare::run(quick, &mut report);
     stand_ins::run(&mut report);
     tables::compare::run(quick, &mut report);
+    readings::compare::run(quick, &Program::find(None), &mut report);
+    frames::by_hand::run(&mut report);
     report.close()
 }
 
@@ -89,5 +123,13 @@ fn compare_numbers(quick: bool) -> bool {
 fn compare_tables(quick: bool) -> bool {
     let mut report = Report::default();
     tables::compare::run(quick, &mut report);
+    report.close()
+}
+
+/// True if no test failed. The program under test is looked for where `rt` puts it.
+fn compare_readings(quick: bool, path: Option<&str>) -> bool {
+    let mut report = Report::default();
+    readings::compare::run(quick, &Program::find(path), &mut report);
+    frames::by_hand::run(&mut report);
     report.close()
 }

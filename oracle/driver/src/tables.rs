@@ -1,10 +1,10 @@
 //! Tables: the table check, rules a to h.
-mod accepted;
+pub mod accepted;
 pub mod bench;
-mod built_in;
+pub mod built_in;
 mod by_hand;
 pub mod compare;
-mod damaged;
+pub mod damaged;
 mod exhaustive;
-mod smallest;
-mod words;
+pub mod smallest;
+pub mod words;

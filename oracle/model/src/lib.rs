@@ -1,7 +1,8 @@
 //! Document 01's "Bit calls", a bit at a time, over every input: any width, any cursor, any length.
-//! It answers where the Rust cannot. Sums are made in `u128`, where none can overflow. Numbers and
-//! tables are in modules of their own.
+//! It answers where the Rust cannot. Sums are made in `u128`, where none can overflow. Numbers, tables
+//! and the reading of payloads are in modules of their own.
 pub mod numbers;
+pub mod reading;
 pub mod tables;
 
 /// The longest buffer that a bit call takes, in bytes.

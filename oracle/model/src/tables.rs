@@ -135,7 +135,8 @@ fn read_set(word: u64) -> Set {
 }
 
 impl Set {
-    fn range(&self) -> Range<usize> {
+    /// The fields that it repeats.
+    pub fn range(&self) -> Range<usize> {
         self.start..self.start + self.size
     }
 
@@ -146,7 +147,7 @@ impl Set {
 }
 
 impl Table {
-    fn in_a_set(&self, field: usize) -> bool {
+    pub fn in_a_set(&self, field: usize) -> bool {
         self.sets.iter().any(|set| set.range().contains(&field))
     }
 

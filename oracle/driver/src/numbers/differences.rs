@@ -62,7 +62,7 @@ fn reading(field: &Field, raw: u64) -> Option<Reason> {
 }
 
 /// Whether the Rust chooses otherwise than the mark. Time is an f64 on both sides.
-fn other_mark(field: &Field, scale: Scale) -> bool {
+pub fn other_mark(field: &Field, scale: Scale) -> bool {
     let single = scaled_value_fits_f32(field.width, field.signed, scale.resolution);
     field.kind != Kind::Time && single != (scale.mark == Mark::Single)
 }

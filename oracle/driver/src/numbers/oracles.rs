@@ -37,7 +37,7 @@ macro_rules! types_of {
             }
         }
 
-        fn descriptor(field: &Field) -> FieldDescriptor {
+        pub fn descriptor(field: &Field) -> FieldDescriptor {
             FieldDescriptor {
                 id: "field",
                 name: "",
@@ -89,7 +89,7 @@ macro_rules! types_of {
             table(&[*counter, *other], vec![set])
         }
 
-        fn from_rust(value: &PgnValue) -> Value {
+        pub fn from_rust(value: &PgnValue) -> Value {
             match *value {
                 PgnValue::U64(v) => Value::whole(ValueKind::U64, v.into()),
                 PgnValue::U32(v) => Value::whole(ValueKind::U32, v.into()),

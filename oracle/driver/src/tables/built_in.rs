@@ -1,4 +1,4 @@
-//! Fields, sets and tables written out, and two of the built-in tables.
+//! Fields, sets and tables written out, and the built-in tables.
 use model::numbers::{Kind, Mark, Scale};
 use model::tables::{Field, Set, Table};
 
@@ -60,6 +60,32 @@ pub fn table(fields: &[Field], sets: &[Set]) -> Table {
     }
 }
 
+/// A table with a length and a minimum, 0 if it has none.
+pub fn sized(length: usize, minimum: usize, fields: &[Field]) -> Table {
+    let given = |bytes: usize| (bytes > 0).then_some(bytes);
+    Table {
+        length: given(length),
+        minimum: given(minimum),
+        ..table(fields, &[])
+    }
+}
+
+/// The built-in tables.
+pub fn all() -> [Table; 4] {
+    [
+        table_129025(),
+        table_129026(),
+        table_129029(),
+        table_130900(),
+    ]
+}
+
+/// A position.
+pub fn table_129025() -> Table {
+    let degrees = double(signed(number(32)), 1e-7);
+    table(&[degrees, degrees], &[])
+}
+
 /// COG and SOG: document 01.
 pub fn table_129026() -> Table {
     let fields = [
@@ -73,7 +99,7 @@ pub fn table_129026() -> Table {
     table(&fields, &[])
 }
 
-/// A position with its reference stations.
+/// A position by satellite, with its reference stations.
 pub fn table_129029() -> Table {
     let fields = [
         number(8),
@@ -96,4 +122,20 @@ pub fn table_129029() -> Table {
         single(field(Kind::Duration, 16), 0.01),
     ];
     table(&fields, &[set(15, 3, 14, 45)])
+}
+
+/// Ours: document 01. The kinds of the first and the third field are open.
+pub fn table_130900() -> Table {
+    let sample = double(signed(number(32)), 0.001);
+    let fields = [
+        field(Kind::Lookup, 11),
+        field(Kind::Reserved, 2),
+        field(Kind::Lookup, 3),
+        number(8),
+        sample,
+        sample,
+        sample,
+        field(Kind::Reserved, 8),
+    ];
+    table(&fields, &[])
 }

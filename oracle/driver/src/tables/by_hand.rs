@@ -2,7 +2,7 @@
 //! least, of which the second is of a later rule, or of the same rule at a higher index. One of a later
 //! rule mostly stands before the first, so that going by the index would be caught.
 use super::built_in::{
-    bare, double, field, number, set, signed, single, table, table_129026, table_129029,
+    all as built_in, bare, double, field, number, set, signed, single, sized, table,
 };
 use super::compare::{Answer, hex};
 use super::words::{head, pack};
@@ -62,16 +62,6 @@ fn broken(letter: char, index: usize, fields: &[Field], sets: &[Set]) -> Case {
     Case {
         words: pack(&table(fields, sets)),
         answer: Err((letter, index)),
-    }
-}
-
-/// A table with a length and a minimum, 0 if it has none.
-fn sized(length: usize, minimum: usize, fields: &[Field]) -> Table {
-    let given = |bytes: usize| (bytes > 0).then_some(bytes);
-    Table {
-        length: given(length),
-        minimum: given(minimum),
-        ..table(fields, &[])
     }
 }
 
@@ -305,9 +295,8 @@ fn accepted() -> Vec<Case> {
     let four = [1, 17, 33, 49].map(|start| set(start, 16 - start / 49, 0, 255));
     let beside = [set(1, 1, 0, 1), set(2, 2, 0, 255)];
     let texts = [number(1), bare(Kind::StringLau), field(Kind::Spare, 1), lz];
-    vec![
-        fine(table_129026()),
-        fine(table_129029()),
+    let mut all: Vec<Case> = built_in().map(fine).into();
+    all.extend([
         fine(table(&ends, &[])),
         fine(table(&[field(Kind::Lookup, 32); 64], &four)),
         fine(table(&[number(8); 4], &beside)),
@@ -316,7 +305,8 @@ fn accepted() -> Vec<Case> {
         fine(sized(1, 1, &[number(8)])),
         fine(sized(0, 223, &[number(8)])),
         fine(sized(1, 0, &[lz])),
-    ]
+    ]);
+    all
 }
 
 /// Missing words are 0, codes beyond the last are no kind, the marks 0 and 3 are none, and words that

@@ -34,7 +34,7 @@ fn counted_less(words: &[u64], quarter: usize) -> Option<Vec<u64>> {
     Some(words)
 }
 
-fn cleared(words: &[u64]) -> impl Iterator<Item = Vec<u64>> {
+pub fn cleared(words: &[u64]) -> impl Iterator<Item = Vec<u64>> {
     let bits = (0..words.len()).flat_map(|at| (0..64).map(move |bit| (at, bit)));
     bits.filter(|&(at, bit)| words[at] >> bit & 1 == 1)
         .map(|(at, bit)| {

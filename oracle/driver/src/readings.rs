@@ -1,0 +1,25 @@
+//! Readings: a payload read by a table.
+pub mod answer;
+mod by_hand;
+pub mod case;
+mod cases;
+pub mod compare;
+mod coverage;
+mod differences;
+mod exhaustive;
+pub mod lines;
+mod malformed;
+mod oracles;
+mod parsed;
+pub mod payloads;
+pub mod program;
+pub mod sample;
+mod sides;
+mod small_tables;
+mod smallest;
+mod test;
+mod told;
+mod worked_papers;
+mod worked_sets;
+mod worked_texts;
+mod worked_walks;
