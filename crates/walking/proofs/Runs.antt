@@ -1,8 +1,8 @@
 -- Laws of walks that follow one another. Assumes nothing.
-use mathlib.Core.Path.{_≡_, refl, sym}
+use mathlib.Core.Path.{_≡_, refl, sym, ap, _∙_}
 use Prim.Native.Nat.{ℕ, zero, suc, _+_, _-_, _≤_, _<_}
 use native.Mathlib.Omega.{arith}
-use mathlib.Core.List.{List, [], _∷_, _++_, append-assoc}
+use mathlib.Core.List.{List, [], _∷_, _++_, append-nil, append-assoc}
 use Rattle.walking.specs.Runs.{Run, ran, stopped, after, andThen, times}
 
 module _ {W S F : Type 0} where
@@ -40,3 +40,18 @@ module _ {W S F : Type 0} where
 
   pub times-all : (n : ℕ) (f : ℕ → S → Run W S F) (s : S) → times n 0 f s ≡ times (n - 0) 0 f s
   times-all n f s = let e : n - 0 ≡ n = omega arith in rw e
+
+  then-nil : (w : Run W S F) → andThen w (λ s. ran [] s) ≡ w
+  unfolding andThen after
+  then-nil (ran us s) = rw (append-nil us)
+  then-nil (stopped us f) = refl
+
+  -- the last of them stands alone
+  pub times-last : (n i : ℕ) (f : ℕ → S → Run W S F) (s : S) → times (suc n) i f s ≡ andThen (times n i f s) (f (i + n))
+  unfolding times
+  times-last zero i f s = let e : i ≡ i + 0 = omega arith in then-nil (f i s) ∙ ap (λ (j : ℕ). f j s) e ∙ sym (then-ran s (f (i + 0)))
+  times-last (suc n) i f s =
+      let e : suc i + n ≡ i + suc n = omega arith in
+      ap (andThen (f i s)) (λ x z. times-last n (suc i) f z x)
+      ∙ sym (then-then (f i s) (times n (suc i) f) (f (suc i + n)))
+      ∙ ap (λ (j : ℕ). andThen (andThen (f i s) (times n (suc i) f)) (f j)) e
