@@ -3,4 +3,14 @@ pub mod Counted
 pub mod Told
 pub mod Turned
 pub mod Looped
+pub mod Spans
+pub mod Least
+pub mod Local
+pub mod Passed
+pub mod Lasts
+pub mod Roomy
+pub mod Changed
+pub mod Received
+pub mod Demand3
+pub mod Answered
 pub mod OneAnswer

@@ -30,6 +30,10 @@ pub use crate::groups::repeating_group_count;
 pub use crate::turns::next_field;
 pub use crate::turns::start;
 
+// With room for so many readings no decode by an accepted table gives 9: `roomEnough` of
+// specs/Demand3.antt, of which proofs/Answered.antt shows it.
+pub const ROOM_ENOUGH: usize = 1785;
+
 // A field met, skipped ones too: `bits` bits from `start` on.
 pub struct Span {
     pub field: usize,
