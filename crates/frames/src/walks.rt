@@ -25,7 +25,8 @@ use reading::next_field;
 use textio::put;
 use textio::put_malformed;
 
-const PAYLOAD_MAX: usize = 223;
+// A payload has at most so many bytes.
+pub const PAYLOAD_MAX: usize = 223;
 
 // The room of one line, with some to spare.
 const LINE_MAX: usize = 1024;
@@ -119,7 +120,8 @@ pub fn is_last(answer: Answer) -> bool
     }
 }
 
-// One turn of the walk through a payload, by a message's table.
+// One turn of the walk through a payload, by a message's table. The built-in tables are accepted, and
+// none has a length to fill a payload to: what `prepare` would do is done.
 fn turn(message: Message, payload: &[u8], walk: Walk) -> Next
     ensures { λ r. ⌜ r ≡ nextOf (tableOf (wordsOf message)) (payloadOf (now (payload .entry))) 256 walk ⌝ }
 {

@@ -30,7 +30,7 @@ pub(crate) struct At {
 
 fn main() {
     let mut input = io::large_buffer();
-    let mut payload = [0u8; 223];
+    let mut payload = [0u8; frames::PAYLOAD_MAX];
     let mut out = io::large_buffer();
     run(&mut input, &mut payload, &mut out);
 }

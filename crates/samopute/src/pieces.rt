@@ -7,6 +7,7 @@ use crate::At;
 use frames::Frame;
 use frames::Line;
 use frames::Message;
+use frames::PAYLOAD_MAX;
 use libc::STDIN_FILENO;
 use libc::STDOUT_FILENO;
 
@@ -121,7 +122,7 @@ fn answer(payload: &[u8], out: &mut [u8], at: At) -> At
             pgn: _,
             received,
         } => {
-            if received <= 223 {
+            if received <= PAYLOAD_MAX {
                 return print(message, &payload[0..received], out, to, next);
             }
             written(out, to, next)

@@ -1,3 +1,5 @@
+-- `readcalls::run` is safe and ends. The invariant: the buffers keep their lengths, and the state stays within them. The measure is
+-- the number of turns that are left. Assumes nothing.
 use borrow.Author.Needs.{needs}
 use Prim.Native.Nat.{_≤_}
 use mathlib.Core.Path.{_≡_}

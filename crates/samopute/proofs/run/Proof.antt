@@ -1,3 +1,5 @@
+-- `samopute::run` is safe and ends. The invariant: the buffers keep their lengths, and the state stays within them. The measure is
+-- the number of turns that are left. Assumes nothing.
 use borrow.Author.Needs.{needs}
 use mathlib.Core.Path.{_≡_}
 use lib.ListN.{length}

@@ -3,6 +3,8 @@ use super::case::Case;
 use super::cases::{any_words, cases_of, refused_cases};
 use super::coverage::Coverage;
 use super::differences::{LeftOut, Reason};
+use super::kept::Kept;
+use super::met::Met;
 use super::program::Program;
 use super::sides::{Answers, Asked, Pair};
 use super::small_tables::any_small_table;
@@ -22,6 +24,8 @@ struct Amount {
     any: usize,
     built_in: usize,
     refused: usize,
+    /// In how many of the four ways each number is changed, where demand 3 is checked.
+    ways: usize,
     /// Counters of up to so many bits are gone through one by one.
     counter_bits: u32,
 }
@@ -31,6 +35,7 @@ const QUICK: Amount = Amount {
     any: 1_000,
     built_in: 150,
     refused: 5_000,
+    ways: 1,
     counter_bits: 5,
 };
 
@@ -39,6 +44,7 @@ const FULL: Amount = Amount {
     any: 15_000,
     built_in: 3_000,
     refused: 60_000,
+    ways: 4,
     counter_bits: 9,
 };
 
@@ -53,7 +59,8 @@ pub fn run(quick: bool, program: &Result<Program, String>, report: &mut Report) 
     by_hand::run(program, report);
     malformed::run(program, report);
 
-    let mut set = Set::new("one by one", &[0, 2, 3, 4, 5], program, &mut counts);
+    let mut set =
+        Set::new("one by one", &[0, 2, 3, 4, 5], program, &mut counts).with_changes(amount.ways);
     exhaustive::kinds(&mut |cases| set.add(cases));
     exhaustive::texts(&mut |cases| set.add(cases));
     exhaustive::fixed_texts(&mut |cases| set.add(cases));
@@ -61,19 +68,22 @@ pub fn run(quick: bool, program: &Result<Program, String>, report: &mut Report) 
     exhaustive::counters(amount.counter_bits, &mut |cases| set.add(cases));
     set.report(report);
 
-    let mut set = Set::new("small tables", &[0, 2, 3, 4, 5, 7, 9], program, &mut counts);
+    let mut set = Set::new("small tables", &[0, 2, 3, 4, 5, 7, 9], program, &mut counts)
+        .with_changes(amount.ways);
     for _ in 0..amount.small {
         set.add_table(&any_small_table(&mut random), &mut random);
     }
     set.report(report);
 
-    let mut set = Set::new("any tables", &[0, 2, 3, 4, 5, 7, 9], program, &mut counts);
+    let mut set = Set::new("any tables", &[0, 2, 3, 4, 5, 7, 9], program, &mut counts)
+        .with_changes(amount.ways);
     for _ in 0..amount.any {
         set.add_table(&any_table(&mut random), &mut random);
     }
     set.report(report);
 
-    let mut set = Set::new("built-in tables", &[0, 2, 4, 7, 9], program, &mut counts);
+    let mut set = Set::new("built-in tables", &[0, 2, 4, 7, 9], program, &mut counts)
+        .with_changes(amount.ways);
     for table in built_in::all() {
         for _ in 0..amount.built_in {
             set.add_table(&table, &mut random);
@@ -89,6 +99,9 @@ pub fn run(quick: bool, program: &Result<Program, String>, report: &mut Report) 
     set.report(report);
 
     report.line("shapes of readings met", counts.coverage.outcome());
+    let asked = |outcome| program.as_ref().map_err(String::clone).and(outcome);
+    report.line("shapes of spans met", asked(counts.met.covered()));
+    report.line("shapes of numbers changed", asked(counts.met.changed()));
     for reason in Reason::ALL {
         let name = format!("left out with the Rust, {}", reason.text());
         report.line(&name, counts.left_out.outcome(reason));
@@ -100,13 +113,17 @@ pub fn run(quick: bool, program: &Result<Program, String>, report: &mut Report) 
 struct Counts {
     left_out: LeftOut,
     coverage: Coverage,
+    met: Met,
 }
 
 /// A set of cases, and the sides held against each other over it.
 struct Set<'a> {
+    name: &'static str,
     program: &'a Result<Program, String>,
     counts: &'a mut Counts,
     tests: Vec<Test>,
+    /// Demand 3, where it is checked.
+    kept: Option<Kept>,
     waiting: Vec<(Case, Rc<Asked>)>,
     /// What went wrong with the program.
     fault: Option<String>,
@@ -114,17 +131,27 @@ struct Set<'a> {
 
 impl<'a> Set<'a> {
     fn new(
-        name: &str,
+        name: &'static str,
         wanted: &'static [u32],
         program: &'a Result<Program, String>,
         counts: &'a mut Counts,
     ) -> Set<'a> {
         Set {
+            name,
             program,
             counts,
             tests: Pair::ALL.map(|pair| Test::new(pair, name, wanted)).into(),
+            kept: None,
             waiting: Vec::new(),
             fault: None,
+        }
+    }
+
+    /// Checks demand 3 too, with each number changed in so many ways.
+    fn with_changes(self, ways: usize) -> Set<'a> {
+        Set {
+            kept: Some(Kept::new(self.name, ways)),
+            ..self
         }
     }
 
@@ -154,6 +181,12 @@ impl<'a> Set<'a> {
             }
             self.counts.left_out.count(&answers);
             self.counts.coverage.add(&answers);
+            if let (Some(kept), Some(ours)) = (&mut self.kept, ours.get(i)) {
+                kept.add(case, &asked.table, ours, &mut self.counts.met);
+            }
+        }
+        if let (Some(kept), Ok(program)) = (&mut self.kept, self.program) {
+            kept.ask_many(program, &mut self.counts.met);
         }
     }
 
@@ -178,6 +211,15 @@ impl<'a> Set<'a> {
                 (program, _) => test.outcome(program.as_ref().ok()),
             };
             report.line(&test.name, outcome);
+        }
+        if let Some(kept) = self.kept {
+            let asked = match (self.program, &self.fault) {
+                (Err(fault), _) | (_, Some(fault)) => Err(fault.clone()),
+                (Ok(program), None) => Ok(program),
+            };
+            for (name, outcome) in kept.outcomes(asked, &mut self.counts.met) {
+                report.line(&name, outcome);
+            }
         }
     }
 }

@@ -1,3 +1,4 @@
+-- `digest::pgn_with` meets its contract: by the test that leads to each return. Assumes nothing.
 use borrow.Author.Tests.{lt-ltb, le-ltb}
 use borrow.Author.Needs.{needs}
 use Rattle.frames.proofs.digest.pgn_with.Statement.{statement}

@@ -1,3 +1,4 @@
+-- `answers::touched` meets its contract: `n` falls from the length on. Assumes nothing.
 use borrow.Author.Needs.{needs}
 use Prim.Native.Nat.{_≤_}
 use lib.ListN.{length}

@@ -1,3 +1,5 @@
+-- `replies::walked` meets its contract. The invariant: `out` keeps its length, and the state stays within it. The measure is the
+-- number of turns that are left. Assumes nothing.
 use borrow.Author.Needs.{needs}
 use mathlib.Core.Path.{_≡_}
 use lib.ListN.{length}

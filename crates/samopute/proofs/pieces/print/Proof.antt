@@ -1,3 +1,5 @@
+-- `pieces::print` meets its contract. The invariant: the text ends within `out`, which keeps its length, and the state stays within the
+-- buffers. The measure is the number of turns that are left. Assumes nothing.
 use borrow.Author.Needs.{needs}
 use Prim.Native.Nat.{_≤_}
 use mathlib.Core.Path.{_≡_}

@@ -1,3 +1,4 @@
+-- `digits::decimal_digits` meets its contract: it counts no further than 20. Assumes nothing.
 use borrow.Author.Needs.{needs}
 use Prim.Native.Nat.{_-_, _≤_}
 use Rattle.textio.proofs.digits.decimal_digits.Statement.{statement}
