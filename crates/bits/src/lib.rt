@@ -10,7 +10,7 @@ ghost use Rattle.bits.specs.Calls.{cursorAt, remainingOf};
 
 mod limits;
 mod parts;
-mod reading;
+mod reads;
 mod refusals;
 mod runs;
 mod writing;

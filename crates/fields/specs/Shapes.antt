@@ -38,3 +38,21 @@ shapeBy kind.Unimplemented w = Number false
 -- of a field
 abbrev pub shapeOf : FieldDescriptor → Shape
 shapeOf f = shapeBy (f .kind) (f .width)
+
+-- a raw
+abbrev pub isNumber : Shape → Bool
+isNumber (Number strict) = true
+isNumber Gap = false
+isNumber Fixed = false
+isNumber Whole = false
+isNumber Lau = false
+isNumber Lz = false
+
+-- bits that are skipped
+abbrev pub isGap : Shape → Bool
+isGap (Number strict) = false
+isGap Gap = true
+isGap Fixed = false
+isGap Whole = false
+isGap Lau = false
+isGap Lz = false

@@ -12,13 +12,15 @@ use descriptor::PgnValue;
 use tables::TableRule;
 
 mod availability;
-mod fields;
+mod read;
 mod refusals;
 mod shapes;
 mod texts;
 
 pub use crate::availability::field_availability;
-pub use crate::fields::read_field_raw_and_value;
+pub use crate::read::read_field_raw_and_value;
+pub use crate::shapes::is_gap;
+pub use crate::shapes::is_number;
 
 // The refusals of a decode. `number` gives document 01's number, `carried` what it carries.
 pub enum DecodeRefusal {

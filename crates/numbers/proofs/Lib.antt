@@ -3,3 +3,4 @@ pub mod Limits
 pub mod Machine
 pub mod Beyond
 pub mod OneAnswer
+pub mod Scaled

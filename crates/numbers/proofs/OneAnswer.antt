@@ -10,6 +10,10 @@ use Rattle.numbers.proofs.conversions.pgn_value_to_f64.Reads as pgn-val
 use Rattle.numbers.proofs.conversions.pgn_value_to_i64.Reads as pgn-value-to-i64
 use Rattle.numbers.proofs.conversions.pgn_value_to_u64.Reads as pgn-value-to-u64
 use Rattle.numbers.proofs.conversions.number_to_raw.Reads as number-to-raw
+use Rattle.numbers.proofs.words.code_of.Reads as code-of
+use Rattle.numbers.proofs.words.word_of.Reads as word-of
+use Rattle.numbers.proofs.words.silence_of.Reads as silence-of
+use Rattle.numbers.proofs.words.number_words.Reads as number-words
 
 one-sign-extend : Fixes sign-extend.Post (λ κs x s. x)
 one-sign-extend = fixed (λ κs a x s p. p)
@@ -37,3 +41,15 @@ one-pgn-value-to-u64 = fixed (λ κs a x s p. p)
 
 one-number-to-raw : Fixes number-to-raw.Post (λ κs x s. x)
 one-number-to-raw = fixed (λ κs a x s p. p)
+
+one-code-of : Fixes code-of.Post (λ κs x s. x)
+one-code-of = fixed (λ κs a x s p. p)
+
+one-word-of : Fixes word-of.Post (λ κs x s. x)
+one-word-of = fixed (λ κs a x s p. p)
+
+one-silence-of : Fixes silence-of.Post (λ κs x s. x)
+one-silence-of = fixed (λ κs a x s p. p)
+
+one-number-words : Fixes number-words.Post (λ κs x s. x)
+one-number-words = fixed (λ κs a x s p. p)

@@ -3,3 +3,4 @@ pub mod Scaling
 pub mod Special
 pub mod Quantizing
 pub mod Conversions
+pub mod Words

@@ -8,6 +8,7 @@ mod quantizing;
 mod scale;
 mod signs;
 mod special;
+mod words;
 
 pub use crate::conversions::number_to_raw;
 pub use crate::conversions::pgn_value_to_f64;
@@ -18,6 +19,10 @@ pub use crate::scale::scale_raw_field;
 pub use crate::signs::sign_extend;
 pub use crate::special::counter_elements;
 pub use crate::special::number_availability;
+pub use crate::words::code_of;
+pub use crate::words::number_words;
+pub use crate::words::silence_of;
+pub use crate::words::word_of;
 
 // The rules by which a raw becomes a value and a value a raw.
 pub(crate) enum ScaleRule {
@@ -33,6 +38,13 @@ pub(crate) enum ScaleRule {
     Real,
     // BitLookup, and a Binary that is no whole number of bytes.
     Flags,
+}
+
+// The answer of `number_words`: the code of the value's kind, its 64 bits, and 1 if it says nothing.
+pub struct NumberWords {
+    pub code: u64,
+    pub word: u64,
+    pub silence: u64,
 }
 
 // The answer of `quantize`.

@@ -108,7 +108,7 @@ pub(crate) fn widen(x: f32) -> f64
 }
 
 // What a raw of n bits means, rounded to f32.
-fn to_f32(n: u32, signed: bool, raw: u64) -> f32
+pub(crate) fn to_f32(n: u32, signed: bool, raw: u64) -> f32
     requires { ⌜ (n ≤ 64) × (raw < 2 ^ n) ⌝ }
     ensures { λ r. ⌜ r ≡ Ieee.ofInt binary32 (meaningOf n signed raw) ⌝ }
 {
@@ -130,7 +130,7 @@ fn to_f64(n: u32, signed: bool, raw: u64) -> f64
 }
 
 // What a raw of n bits means times the resolution, in f64.
-fn product(n: u32, signed: bool, raw: u64, resolution: f32) -> f64
+pub(crate) fn product(n: u32, signed: bool, raw: u64, resolution: f32) -> f64
     requires { ⌜ (n ≤ 64) × (raw < 2 ^ n) ⌝ }
     ensures { λ r. ⌜ r ≡ productOf (meaningOf n signed raw) resolution ⌝ }
 {
@@ -192,7 +192,7 @@ fn clock(resolution: Resolution, n: u32, raw: u64) -> PgnValue
 }
 
 // The f32 with these bits.
-fn float_of(raw: u64) -> f32
+pub(crate) fn float_of(raw: u64) -> f32
     ensures { λ r. ⌜ r ≡ Ieee.ofBits binary32 (raw % 2 ^ 32) ⌝ }
 {
     rounding::f32_of_bits((raw % 0x1_0000_0000) as u32)

@@ -1,12 +1,12 @@
 // Raws that say something other than a number, in one place.
 ghost use mathlib.Core.Path.{_≡_};
 ghost use Prim.Native.Nat.{_-_, _%_, _^_, _≤_, min};
-ghost use Rattle.numbers.specs.Special.{topOf, rawAvailabilityOf, floatAvailabilityOf, numberAvailabilityOf, elementsOf};
-use crate::ScaleRule;
-use crate::scale::rule_of;
+ghost use Rattle.numbers.specs.Scaling.{ruleOf};
+ghost use Rattle.numbers.specs.Special.{topOf, rawAvailabilityOf, floatAvailabilityOf, byRule, numberAvailabilityOf, elementsOf};
 use crate::signs;
 use descriptor::Availability;
 use descriptor::FieldDescriptor;
+use descriptor::FieldKind;
 
 // n ones.
 pub(crate) fn ones(n: u32) -> u64
@@ -60,6 +60,17 @@ fn float_availability(raw: u64) -> Availability
     Availability::Available
 }
 
+// Whether a raw of n bits says something: a Float has its own rule, and all other kinds one.
+pub(crate) fn availability(kind: FieldKind, n: u32, signed: bool, raw: u64) -> Availability
+    requires { ⌜ n ≤ 64 ⌝ }
+    ensures { λ r. ⌜ r ≡ byRule (ruleOf kind) n signed raw ⌝ }
+{
+    match kind {
+        FieldKind::Float => float_availability(raw),
+        _ => raw_availability(n, signed, raw),
+    }
+}
+
 // Whether a number field's raw says something.
 pub fn number_availability(raw: u64, f: FieldDescriptor) -> Availability
     ensures { λ r. ⌜ r ≡ numberAvailabilityOf f raw ⌝ }
@@ -67,15 +78,7 @@ pub fn number_availability(raw: u64, f: FieldDescriptor) -> Availability
     let n = signs::least(f.width, 64);
     let r = signs::low_bits(raw, n);
     let kind = f.kind;
-    let signed = f.signed;
-    match rule_of(kind) {
-        ScaleRule::Plain => raw_availability(n, signed, r),
-        ScaleRule::Counted => raw_availability(n, signed, r),
-        ScaleRule::Lasting => raw_availability(n, signed, r),
-        ScaleRule::Clock => raw_availability(n, signed, r),
-        ScaleRule::Real => float_availability(r),
-        ScaleRule::Flags => raw_availability(n, signed, r),
-    }
+    availability(kind, n, f.signed, r)
 }
 
 // How many elements the raw of a counter means.

@@ -76,7 +76,7 @@ fn put_content(out: &mut [u8], at: usize, value: PgnValue) -> usize
 {
     match value {
         PgnValue::Bytes(b) => put_place(out, at, b),
-        _ => put_value(out, at, samopute_c::word_of(value)),
+        _ => put_value(out, at, numbers::word_of(value)),
     }
 }
 

@@ -154,7 +154,7 @@ module _ (t : Table) (p : Payload) (room : ℕ) where
     pub ends : n .answer ≡ Ended → whole ≡ decoded.Ended (n .walk .progress .at) (n .walk .progress .made)
     pub stops : (f : DecodeRefusal) → n .answer ≡ Refused f → whole ≡ decoded.Refused f (n .walk .progress .made)
 
-  met-on : (sh : Shape) (r : Reading) (v : Span) → goesOn (metBy sh r v) ≡ true
+  pub met-on : (sh : Shape) (r : Reading) (v : Span) → goesOn (metBy sh r v) ≡ true
   met-on (Number b) r v = refl
   met-on Gap r v = refl
   met-on Fixed r v = refl
@@ -171,7 +171,7 @@ module _ (t : Table) (p : Payload) (room : ℕ) where
   met-hands Lau r v = refl
   met-hands Lz r v = refl
 
-  one-hands : (v : Span) → readings t p (v ∷ []) ≡ handed (metOf t p v)
+  pub one-hands : (v : Span) → readings t p (v ∷ []) ≡ handed (metOf t p v)
   unfolding readings
   one-hands v = met-hands (shapeOf (t .field (v .field))) (readingOf t p v) v
 

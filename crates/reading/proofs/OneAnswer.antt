@@ -3,6 +3,8 @@
 use denote.Ref.{now}
 use Rattle.one_answer.proofs.Fixes.{Fixes, fixed}
 use Rattle.reading.proofs.groups.repeating_group_count.Reads as repeating-group-count
+use Rattle.reading.proofs.groups.noted_by.Reads as noted-by
+use Rattle.reading.proofs.filling.is_filled.Reads as is-filled
 use Rattle.reading.proofs.turns.start.Reads as start
 use Rattle.reading.proofs.turns.next_field.Reads as next-field
 use Rattle.reading.proofs.filling.pad_to_min_length.Reads as pad-to-min-length
@@ -32,3 +34,9 @@ one-for-each-field = fixed (λ κs a x s p. p .0)
 
 same-for-each-field : Fixes for-each-field.Post (λ κs x s. now (s .1 .1 .0))
 same-for-each-field = fixed (λ κs a x s p. p .1)
+
+one-noted-by : Fixes noted-by.Post (λ κs x s. x)
+one-noted-by = fixed (λ κs a x s p. p)
+
+one-is-filled : Fixes is-filled.Post (λ κs x s. x)
+one-is-filled = fixed (λ κs a x s p. p)

@@ -14,7 +14,7 @@ use tables::Checked;
 const PAYLOAD_MAX: usize = 223;
 
 // Whether a payload of so many bytes is filled.
-fn is_filled(words: &[u64], received: usize) -> bool
+pub fn is_filled(words: &[u64], received: usize) -> bool
     ensures { λ r. ⌜ r ≡ fills (tableOf (now (words .entry))) received ⌝ }
 {
     let minimum = tables::minimum_of(words);

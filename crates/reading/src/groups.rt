@@ -38,7 +38,7 @@ fn noted(words: &[u64], i: usize, r: u64, cs: [u64; 4]) -> [u64; 4]
 }
 
 // The counters once a field has been read: one in a set counts nothing, nor does one without a raw.
-pub(crate) fn noted_by(words: &[u64], e: Element, i: usize, raw: Raw, cs: [u64; 4]) -> [u64; 4]
+pub fn noted_by(words: &[u64], e: Element, i: usize, raw: Raw, cs: [u64; 4]) -> [u64; 4]
     ensures { λ o. ⌜ o ≡ notedBy (tableOf (now (words .entry))) e i raw cs ⌝ }
 {
     match e {

@@ -7,7 +7,7 @@ ghost use Rattle.tables.specs.Check.{foundFrom, first, fromB, checkOf};
 use crate::Checked;
 use crate::Found;
 use crate::TableRule;
-use crate::fields;
+use crate::kept;
 use crate::rules;
 use crate::words::field_count;
 use crate::words::set_count;
@@ -56,8 +56,8 @@ fn explain(words: &[u64]) -> Checked
 fn is_clean(words: &[u64]) -> bool
     ensures { λ r. ⌜ (r ≡ true → fromB (tableOf (now (words .entry))) ≡ Checked.Accepted) ⌝ }
 {
-    if fields::fields_are_kept(words, field_count(words)) {
-        return fields::sets_are_kept(words, set_count(words));
+    if kept::fields_are_kept(words, field_count(words)) {
+        return kept::sets_are_kept(words, set_count(words));
     }
     false
 }

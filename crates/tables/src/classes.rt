@@ -1,5 +1,6 @@
 // The rules b to e, of a field by itself.
 ghost use mathlib.Core.Path.{_≡_};
+ghost use mathlib.Core.Bool.{true};
 ghost use lib.IntN.{pos, negsuc};
 ghost use Rattle.tables.specs.Rules.{classOf, known, within, wholeBytes, widthFits, scales, inScale, resolutionFits, scaled, signFits, counts};
 use crate::KindClass;
@@ -29,6 +30,16 @@ pub(crate) fn class_of(kind: FieldKind) -> KindClass
         FieldKind::Spare => KindClass::Gap,
         FieldKind::IsoName => KindClass::Numeric,
         FieldKind::Unimplemented => KindClass::Unknown,
+    }
+}
+
+// Number, Lookup, IndirectLookup, Pgn and IsoName.
+pub(crate) fn is_numeric(kind: FieldKind) -> bool
+    ensures { λ r. ⌜ (r ≡ true → classOf kind ≡ KindClass.Numeric) ⌝ }
+{
+    match class_of(kind) {
+        KindClass::Numeric => true,
+        _ => false,
     }
 }
 
@@ -133,6 +144,17 @@ fn scale_fits(c: KindClass, r: f32) -> bool
         return in_scale(r);
     }
     false
+}
+
+// d, of a numeric kind
+pub(crate) fn scale_is_kept(resolution: Resolution) -> bool
+    ensures { λ r. ⌜ r ≡ resolutionFits KindClass.Numeric resolution ⌝ }
+{
+    match resolution {
+        Resolution::Unscaled => true,
+        Resolution::Single(r) => in_scale(r),
+        Resolution::Double(r) => in_scale(r),
+    }
 }
 
 // d

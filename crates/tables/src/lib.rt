@@ -9,7 +9,7 @@ ghost use Rattle.tables.specs.Check.{letterOf};
 
 mod checking;
 mod classes;
-mod fields;
+mod kept;
 mod rules;
 mod sets;
 mod words;

@@ -3,10 +3,17 @@
 // Promise: any bytes may come, and any number of them; the memory used stays the same. A function that
 // puts text asks for the room that its longest text takes, and says where the text ends. Which text it
 // is no contract says, as none can say what is read or written.
+mod columns;
 mod digits;
-mod fields;
 mod steps;
 
+pub use crate::columns::Number;
+pub use crate::columns::Run;
+pub use crate::columns::bytes;
+pub use crate::columns::decimal;
+pub use crate::columns::field_end;
+pub use crate::columns::hex;
+pub use crate::columns::words;
 pub use crate::digits::put;
 pub use crate::digits::put_bytes;
 pub use crate::digits::put_decimal;
@@ -17,13 +24,6 @@ pub use crate::digits::put_pairs;
 pub use crate::digits::put_text;
 pub use crate::digits::put_value;
 pub use crate::digits::wide;
-pub use crate::fields::Number;
-pub use crate::fields::Run;
-pub use crate::fields::bytes;
-pub use crate::fields::decimal;
-pub use crate::fields::field_end;
-pub use crate::fields::hex;
-pub use crate::fields::words;
 pub use crate::steps::finish;
 pub use crate::steps::next_line;
 pub use crate::steps::start;
