@@ -3,13 +3,15 @@
 use denote.Ref.{now}
 use Rattle.one_answer.proofs.Fixes.{Fixes, fixed}
 use Rattle.samopute_c.proofs.checking.samopute_check.Reads as check
-use Rattle.samopute_c.proofs.values.word_of.Reads as word-of
-use Rattle.samopute_c.proofs.reading.samopute_read_u64.Reads as read-u64
-use Rattle.samopute_c.proofs.reading.samopute_read_u32.Reads as read-u32
-use Rattle.samopute_c.proofs.reading.samopute_read_u16.Reads as read-u16
-use Rattle.samopute_c.proofs.reading.samopute_read_u8.Reads as read-u8
-use Rattle.samopute_c.proofs.reading.samopute_advance.Reads as advance
-use Rattle.samopute_c.proofs.reading.samopute_read_slice.Reads as read-slice
+use Rattle.samopute_c.proofs.decoding.samopute_decode.Reads as decode
+use Rattle.samopute_c.proofs.decoding.samopute_decode_pgn.Reads as decode-pgn
+use Rattle.samopute_c.proofs.decoding.samopute_version.Reads as version
+use Rattle.samopute_c.proofs.reads.samopute_read_u64.Reads as read-u64
+use Rattle.samopute_c.proofs.reads.samopute_read_u32.Reads as read-u32
+use Rattle.samopute_c.proofs.reads.samopute_read_u16.Reads as read-u16
+use Rattle.samopute_c.proofs.reads.samopute_read_u8.Reads as read-u8
+use Rattle.samopute_c.proofs.reads.samopute_advance.Reads as advance
+use Rattle.samopute_c.proofs.reads.samopute_read_slice.Reads as read-slice
 use Rattle.samopute_c.proofs.writing.samopute_write_u64.Reads as write-u64
 use Rattle.samopute_c.proofs.writing.samopute_write_u32.Reads as write-u32
 use Rattle.samopute_c.proofs.writing.samopute_write_u16.Reads as write-u16
@@ -139,5 +141,31 @@ one-check = fixed (λ κs a x s p. p .0)
 told-check : Fixes check.Post (λ κs x s. now (s .1 .0))
 told-check = fixed (λ κs a x s p. p .1)
 
-one-word-of : Fixes word-of.Post (λ κs x s. x)
-one-word-of = fixed (λ κs a x s p. p)
+-- Decoding: the status, the padding run, the readings, the lent `answer`.
+
+one-decode : Fixes decode.Post (λ κs x s. x)
+one-decode = fixed (λ κs a x s p. p .0)
+
+run-decode : Fixes decode.Post (λ κs x s. now (s .1 .1 .0))
+run-decode = fixed (λ κs a x s p. p .1 .0)
+
+out-decode : Fixes decode.Post (λ κs x s. now (s .1 .1 .1 .0))
+out-decode = fixed (λ κs a x s p. p .1 .1 .0)
+
+told-decode : Fixes decode.Post (λ κs x s. now (s .1 .1 .1 .1 .0))
+told-decode = fixed (λ κs a x s p. p .1 .1 .1)
+
+one-decode-pgn : Fixes decode-pgn.Post (λ κs x s. x)
+one-decode-pgn = fixed (λ κs a x s p. p .0)
+
+run-decode-pgn : Fixes decode-pgn.Post (λ κs x s. now (s .1 .1 .0))
+run-decode-pgn = fixed (λ κs a x s p. p .1 .0)
+
+out-decode-pgn : Fixes decode-pgn.Post (λ κs x s. now (s .1 .1 .1 .0))
+out-decode-pgn = fixed (λ κs a x s p. p .1 .1 .0)
+
+told-decode-pgn : Fixes decode-pgn.Post (λ κs x s. now (s .1 .1 .1 .1 .0))
+told-decode-pgn = fixed (λ κs a x s p. p .1 .1 .1)
+
+one-version : Fixes version.Post (λ κs x s. x)
+one-version = fixed (λ κs a x s p. p)

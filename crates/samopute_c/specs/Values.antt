@@ -1,15 +1,12 @@
 -- How fields and values cross the boundary: a field as five numbers, a value as a code for its kind and 64 bits.
-use Prim.Native.Nat.{ℕ, suc, _-_, _%_, _^_}
+use Prim.Native.Nat.{ℕ, _%_, _^_}
 use mathlib.Core.Bool.{not}
 use mathlib.Core.List.{List, [], _∷_}
 use lib.Dec.{eqb}
-use lib.Ieee.{binary32, binary64, ofBits, toBits}
-use lib.IntN.{ℤ, pos, negsuc}
+use lib.Ieee.{binary32, binary64, ofBits}
 use lib.ListN.{getD}
 use Rattle.bits.specs.Calls.{bytes}
 use Rattle.descriptor.specs.Kinds.{kindOf, resolutionOf}
-use Rattle.descriptor.specs.declared.Availability.{Availability}
-use Rattle.descriptor.specs.declared.Availability.the-variants.{Available, NotAvailable}
 use Rattle.descriptor.specs.declared.Encoding.the-variants.{Absent}
 use Rattle.descriptor.specs.declared.FieldDescriptor.{FieldDescriptor}
 use Rattle.descriptor.specs.declared.PgnValue.{PgnValue}
@@ -17,6 +14,7 @@ use Rattle.descriptor.specs.declared.PgnValue.the-variants.{U64, U32, U16, U8, 
 use Rattle.numbers.specs.Scaling.{bitsOf, scaleOf}
 use Rattle.numbers.specs.Signs.{signExtendOf}
 use Rattle.numbers.specs.Special.{numberAvailabilityOf, elementsOf}
+use Rattle.numbers.specs.Words.{wordOf, silenceOf}
 use Rattle.numbers.specs.declared.RawOf.{RawOf}
 use Rattle.numbers.specs.declared.RawOf.the-variants.{Raw, OutOfRange, WrongKind}
 
@@ -24,39 +22,6 @@ use Rattle.numbers.specs.declared.RawOf.the-variants.{Raw, OutOfRange, WrongKin
 abbrev pub fieldOf : ℕ → ℕ → ℕ → ℕ → ℕ → FieldDescriptor
 fieldOf kind width sign mark bits =
     record { kind = kindOf kind; width = width; signed = not (eqb sign 0); resolution = resolutionOf mark bits }
-
--- a whole number in two's complement of 64 bits
-abbrev pub twosOf : ℤ → ℕ
-twosOf (pos m) = m
-twosOf (negsuc m) = 2 ^ 64 - suc m
-
--- the code of a value's kind
-abbrev pub codeOf : PgnValue → ℕ
-codeOf (U64 n) = 1
-codeOf (U32 n) = 2
-codeOf (U16 n) = 3
-codeOf (U8 n) = 4
-codeOf (I64 z) = 5
-codeOf (I32 z) = 6
-codeOf (I16 z) = 7
-codeOf (I8 z) = 8
-codeOf (F64 x) = 9
-codeOf (F32 x) = 10
-codeOf (Bytes b) = 11
-
--- the 64 bits of a value: a float's are its pattern, and bytes have none
-abbrev pub wordOf : PgnValue → ℕ
-wordOf (U64 n) = n
-wordOf (U32 n) = n
-wordOf (U16 n) = n
-wordOf (U8 n) = n
-wordOf (I64 z) = twosOf z
-wordOf (I32 z) = twosOf z
-wordOf (I16 z) = twosOf z
-wordOf (I8 z) = twosOf z
-wordOf (F64 x) = toBits binary64 x
-wordOf (F32 x) = toBits binary32 x
-wordOf (Bytes b) = 0
 
 -- what stands for no number: no bytes
 abbrev pub noNumber : PgnValue
@@ -80,11 +45,6 @@ valuesOf word =
 -- the value with a kind's code and 64 bits; every other code is that of no number
 abbrev pub valueOf : ℕ → ℕ → PgnValue
 valueOf code word = getD (noNumber ∷ valuesOf word) code noNumber
-
--- 1 if a reading says nothing
-abbrev pub silenceOf : Availability → ℕ
-silenceOf Available = 0
-silenceOf NotAvailable = 1
 
 -- what `samopute_scale` lays out: the value's bits, whether it says nothing, and the elements that a counter means
 abbrev pub scaleCells : FieldDescriptor → ℕ → List ℕ

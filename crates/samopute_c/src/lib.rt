@@ -16,15 +16,18 @@ use bits::Cursor;
 use bits::Moved;
 
 mod checking;
-mod reading;
+mod decoding;
+mod reads;
 mod scaling;
 mod values;
 mod writing;
 
 pub use crate::checking::samopute_check;
+pub use crate::decoding::samopute_decode;
+pub use crate::decoding::samopute_decode_pgn;
+pub use crate::decoding::samopute_version;
 pub use crate::scaling::samopute_raw_of;
 pub use crate::scaling::samopute_scale;
-pub use crate::values::word_of;
 
 // Lays out an accepted answer: its status is 0.
 fn tell(answer: &mut [u64; 3], at: usize, next: Cursor, a: u64, b: u64) -> u32

@@ -3,12 +3,10 @@ ghost use mathlib.Core.Path.{_≡_};
 ghost use mathlib.Core.List.{[], _∷_};
 ghost use Rattle.numbers.specs.Scaling.{scaleOf};
 ghost use Rattle.numbers.specs.Conversions.{rawOf};
-ghost use Rattle.samopute_c.specs.Values.{fieldOf, codeOf, valueOf, scaleCells, rawStatus, rawCells};
-use crate::values::code_of;
+ghost use Rattle.numbers.specs.Words.{codeOf};
+ghost use Rattle.samopute_c.specs.Values.{fieldOf, valueOf, scaleCells, rawStatus, rawCells};
 use crate::values::field_of;
-use crate::values::silence_of;
 use crate::values::value_of;
-use crate::values::word_of;
 use numbers::RawOf;
 
 #[no_mangle]
@@ -25,11 +23,11 @@ pub extern "C" fn samopute_scale(
 {
     let f = field_of(kind, width, is_signed, mark, resolution);
     let value = numbers::scale_raw_field(raw, f);
-    let word = word_of(value);
-    let silence = silence_of(numbers::number_availability(raw, f));
+    let word = numbers::word_of(value);
+    let silence = numbers::silence_of(numbers::number_availability(raw, f));
     let elements = numbers::counter_elements(raw, width);
     *answer = [word, silence, elements];
-    code_of(value)
+    numbers::code_of(value)
 }
 
 fn tell_raw(answer: &mut [u64; 3], raw: u64, status: u32) -> u32

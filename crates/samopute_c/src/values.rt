@@ -1,8 +1,7 @@
 // Fields and values as numbers.
 ghost use mathlib.Core.Path.{_≡_};
-ghost use Rattle.samopute_c.specs.Values.{fieldOf, twosOf, codeOf, wordOf, valueOf, noNumber, silenceOf};
+ghost use Rattle.samopute_c.specs.Values.{fieldOf, valueOf, noNumber};
 use bits::ByteCount;
-use descriptor::Availability;
 use descriptor::Encoding;
 use descriptor::FieldDescriptor;
 use descriptor::PgnBytes;
@@ -18,53 +17,6 @@ pub(crate) fn field_of(kind: u32, width: u32, sign: u32, mark: u32, bits: u32) -
         width,
         signed: sign != 0,
         resolution: factor,
-    }
-}
-
-pub(crate) fn code_of(value: PgnValue) -> u32
-    ensures { λ r. ⌜ r ≡ codeOf value ⌝ }
-{
-    match value {
-        PgnValue::U64(_) => 1,
-        PgnValue::U32(_) => 2,
-        PgnValue::U16(_) => 3,
-        PgnValue::U8(_) => 4,
-        PgnValue::I64(_) => 5,
-        PgnValue::I32(_) => 6,
-        PgnValue::I16(_) => 7,
-        PgnValue::I8(_) => 8,
-        PgnValue::F64(_) => 9,
-        PgnValue::F32(_) => 10,
-        PgnValue::Bytes(_) => 11,
-    }
-}
-
-// A number in two's complement of 64 bits. 2^64 does not fit, so one comes off both sides.
-fn twos(z: i64) -> u64
-    ensures { λ r. ⌜ r ≡ twosOf z ⌝ }
-{
-    let size = rounding::magnitude(z);
-    if z >= 0 {
-        return size;
-    }
-    0xffff_ffff_ffff_ffff - (size - 1)
-}
-
-pub fn word_of(value: PgnValue) -> u64
-    ensures { λ r. ⌜ r ≡ wordOf value ⌝ }
-{
-    match value {
-        PgnValue::U64(n) => n,
-        PgnValue::U32(n) => n as u64,
-        PgnValue::U16(n) => n as u64,
-        PgnValue::U8(n) => n as u64,
-        PgnValue::I64(z) => twos(z),
-        PgnValue::I32(z) => twos(z as i64),
-        PgnValue::I16(z) => twos(z as i64),
-        PgnValue::I8(z) => twos(z as i64),
-        PgnValue::F64(x) => rounding::bits_of_f64(x),
-        PgnValue::F32(x) => rounding::bits_of_f32(x) as u64,
-        PgnValue::Bytes(_) => 0,
     }
 }
 
@@ -93,14 +45,5 @@ pub(crate) fn value_of(code: u32, word: u64) -> PgnValue
         9 => PgnValue::F64(rounding::f64_of_bits(word)),
         10 => PgnValue::F32(rounding::f32_of_bits((word % 0x1_0000_0000) as u32)),
         _ => no_number(),
-    }
-}
-
-pub(crate) fn silence_of(a: Availability) -> u64
-    ensures { λ r. ⌜ r ≡ silenceOf a ⌝ }
-{
-    match a {
-        Availability::Available => 0,
-        Availability::NotAvailable => 1,
     }
 }

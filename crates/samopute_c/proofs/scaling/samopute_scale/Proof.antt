@@ -5,7 +5,7 @@ use Prim.Native.Nat.{ℕ}
 use Rattle.descriptor.specs.declared.FieldDescriptor.{FieldDescriptor}
 use Rattle.numbers.specs.Scaling.{scaleOf}
 use Rattle.numbers.specs.Special.{numberAvailabilityOf}
-use Rattle.samopute_c.specs.Values.{codeOf, wordOf, silenceOf}
+use Rattle.numbers.specs.Words.{codeOf, wordOf, silenceOf}
 use borrow.Author.Needs.{needs}
 use Rattle.samopute_c.proofs.scaling.samopute_scale.Statement.{statement}
 use Rattle.samopute_c.proofs.scaling.samopute_scale.Tie as tie

@@ -1,0 +1,59 @@
+-- A table that is built in: accepted, and filling nothing. Assumes nothing.
+use mathlib.Core.Path.{_≡_, refl, sym, ap, _∙_}
+use mathlib.Core.Bool.{Bool, true, false, _&&_}
+use mathlib.Core.List.{List, _++_}
+use Prim.Native.Nat.{ℕ, _-_, _≤_, _<_}
+use lib.Dec.{leb, ltb, eqb}
+use lib.ListN.{length, replicate}
+use borrow.Author.Tests.{lt-ltb, le-ltb, eq-eqb, ne-eqb}
+use Rattle.bits.specs.Bits.{pick}
+use Rattle.bits.specs.Calls.{bytes}
+use Rattle.tables.specs.Table.{Table}
+use Rattle.tables.specs.Check.{checkOf}
+use Rattle.tables.specs.declared.Checked.{Checked}
+use Rattle.tables.specs.declared.Checked.the-variants.{Accepted}
+use Rattle.fields.specs.declared.DecodeRefusal.the-variants.{WrongLength}
+use Rattle.reading.specs.declared.Prepared.{Prepared}
+use Rattle.reading.specs.declared.Prepared.the-variants.{Ready, Refused}
+use Rattle.reading.specs.Filling.{fills, workingOf, byCheck, preparedOf}
+use Rattle.messages.specs.Tables.{words129025, words129026, words129029, words130900}
+use Rattle.records.specs.Pgn.{ofBuiltIn}
+
+module _ (t : Table) (received padded : ℕ) where
+  abbrev later : Prepared
+  later = pick (eqb padded 223) (byCheck (checkOf t)) (Refused (WrongLength (bytes padded)))
+
+  abbrev over : Prepared
+  over = Refused (WrongLength (bytes received))
+
+  pub too-long : 223 < received → Refused (WrongLength (bytes received)) ≡ preparedOf t received padded
+  too-long l = sym (ap (λ (b : Bool). pick b over later) (lt-ltb _ _ l))
+
+  fits : received ≤ 223 → later ≡ preparedOf t received padded
+  fits l = sym (ap (λ (b : Bool). pick b over later) (le-ltb _ _ l))
+
+  pub wrong-run : received ≤ 223 → (padded ≡ 223 → ⊥) → Refused (WrongLength (bytes padded)) ≡ preparedOf t received padded
+  wrong-run l n = sym (ap (λ (b : Bool). pick b (byCheck (checkOf t)) (Refused (WrongLength (bytes padded)))) (ne-eqb _ _ n)) ∙ fits l
+
+  pub ready : received ≤ 223 → padded ≡ 223 → checkOf t ≡ Accepted → Ready ≡ preparedOf t received padded
+  ready l e ok =
+      sym (ap byCheck ok) ∙ sym (ap (λ (b : Bool). pick b (byCheck (checkOf t)) (Refused (WrongLength (bytes padded)))) (eq-eqb _ _ e)) ∙ fits l
+
+pub working-kept : (t : Table) (received : List ℕ) → t .minimum ≡ 0 → received ≡ workingOf t received
+working-kept t received h =
+    sym (ap (λ (b : Bool). pick b (received ++ replicate (t .length - length received) 0xff) received)
+    (ap (λ (m : ℕ). leb 1 m && (leb m (length received) && ltb (length received) (t .length))) h))
+
+module _ {A : Type 0} (pgn : ℕ) (f : List ℕ → A) (none : A) where
+  pub known-as : (k : ℕ) → pgn ≡ k → ofBuiltIn k f none ≡ ofBuiltIn pgn f none
+  known-as k h = ap (λ (x : ℕ). ofBuiltIn x f none) (sym h)
+
+  no-pick : (k : ℕ) (x y : A) → (pgn ≡ k → ⊥) → y ≡ pick (eqb pgn k) x y
+  no-pick k x y h = sym (ap (λ (b : Bool). pick b x y) (ne-eqb _ _ h))
+
+  pub unknown : (pgn ≡ 129025 → ⊥) → (pgn ≡ 129026 → ⊥) → (pgn ≡ 129029 → ⊥) → (pgn ≡ 130900 → ⊥) → none ≡ ofBuiltIn pgn f none
+  unknown a b c d =
+      no-pick 130900 (f words130900) none d
+      ∙ no-pick 129029 (f words129029) (pick (eqb pgn 130900) (f words130900) none) c
+      ∙ no-pick 129026 (f words129026) (pick (eqb pgn 129029) (f words129029) (pick (eqb pgn 130900) (f words130900) none)) b
+      ∙ no-pick 129025 (f words129025) (pick (eqb pgn 129026) (f words129026) (pick (eqb pgn 129029) (f words129029) (pick (eqb pgn 130900) (f words130900) none))) a

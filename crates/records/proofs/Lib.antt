@@ -1,0 +1,10 @@
+pub mod Putting
+pub mod Worth
+pub mod Placed
+pub mod Quickly
+pub mod Leading
+pub mod Seated
+pub mod Storing
+pub mod Counting
+pub mod Known
+pub mod OneAnswer

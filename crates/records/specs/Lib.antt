@@ -1,0 +1,5 @@
+pub mod Layout
+pub mod Into
+pub mod Pgn
+pub mod Puts
+pub mod Stretches

@@ -1,0 +1,110 @@
+// Decoding: the readings go into a lent buffer as records, laid out as specs/Layout.antt of `records`
+// says.
+ghost use mathlib.Core.Path.{_≡_};
+ghost use lib.ListN.{length};
+ghost use Rattle.tables.specs.Table.{tableOf};
+ghost use Rattle.reading.specs.Filling.{runAfter};
+ghost use Rattle.records.specs.Into.{decodedInto, outAfter};
+ghost use Rattle.records.specs.Pgn.{byPgnOf, outByPgn};
+ghost use Rattle.samopute_c.specs.Decodes.{decodedStatus, decodedCells, filledBy, cellsOf, pgnStatus, pgnCells, versionOf};
+use reading::Decoded;
+use records::ByPgn;
+
+// 0, or the refusal's number.
+fn status_of(decoded: Decoded) -> u32
+    ensures { λ r. ⌜ r ≡ decodedStatus decoded ⌝ }
+{
+    match decoded {
+        Decoded::Ended { end: _, count: _ } => 0,
+        Decoded::Refused { refusal, count: _ } => refusal.number(),
+    }
+}
+
+// Whether the padding run was filled.
+fn filled_by(status: u32, filled: bool) -> u64
+    ensures { λ r. ⌜ r ≡ filledBy status filled ⌝ }
+{
+    if status == 7 {
+        return 0;
+    }
+    if status == 8 {
+        return 0;
+    }
+    if filled { 1 } else { 0 }
+}
+
+// Lays out a decode's answer.
+fn tell_decoded(answer: &mut [u64; 5], filled: u64, decoded: Decoded)
+    ensures { λ _. ⌜ now (answer .exit) ≡ decodedCells filled decoded ⌝ }
+{
+    match decoded {
+        Decoded::Ended { end, count } => {
+            let to = end.0;
+            *answer = [count as u64, filled, to as u64, 0, 0];
+        }
+        Decoded::Refused { refusal, count } => {
+            let first = refusal.carried(0);
+            let second = refusal.carried(1);
+            let third = refusal.carried(2);
+            *answer = [
+                count as u64,
+                filled,
+                first as u64,
+                second as u64,
+                third as u64,
+            ];
+        }
+    }
+}
+
+// Decodes a payload by a table in words. `padding` is of 223 bytes. The answer is 0, or the refusal's
+// number; the five numbers are the count of readings, 1 if the working payload is the front of the
+// padding run, and the end in bits, or what the refusal carries.
+#[no_mangle]
+pub extern "C" fn samopute_decode(
+    words: &[u64],
+    payload: &[u8],
+    padding: &mut [u8],
+    readings: &mut [u8],
+    answer: &mut [u64; 5],
+) -> u32
+    ensures { λ r. ⌜ (r ≡ decodedStatus (decodedInto (tableOf (now (words .entry))) (now (payload .entry)) (length (now (padding .entry))) (length (now (readings .entry))))) × ((now (padding .exit) ≡ runAfter (tableOf (now (words .entry))) (now (payload .entry)) (now (padding .entry))) × ((now (readings .exit) ≡ outAfter (tableOf (now (words .entry))) (now (payload .entry)) (length (now (padding .entry))) (now (readings .entry))) × (now (answer .exit) ≡ cellsOf (tableOf (now (words .entry))) (length (now (payload .entry))) (decodedInto (tableOf (now (words .entry))) (now (payload .entry)) (length (now (padding .entry))) (length (now (readings .entry))))))) ⌝ }
+{
+    let decoded = records::decode_into(words, payload, padding, readings);
+    let status = status_of(decoded);
+    let filled = filled_by(status, reading::is_filled(words, payload.len()));
+    tell_decoded(answer, filled, decoded);
+    status
+}
+
+// The same by the table that is built in for a PGN; 15 if there is none. None of them fills the
+// padding run.
+#[no_mangle]
+pub extern "C" fn samopute_decode_pgn(
+    pgn: u32,
+    payload: &[u8],
+    padding: &mut [u8],
+    readings: &mut [u8],
+    answer: &mut [u64; 5],
+) -> u32
+    ensures { λ r. ⌜ (r ≡ pgnStatus (byPgnOf pgn (now (payload .entry)) (length (now (padding .entry))) (length (now (readings .entry))))) × ((now (padding .exit) ≡ now (padding .entry)) × ((now (readings .exit) ≡ outByPgn pgn (now (payload .entry)) (length (now (padding .entry))) (now (readings .entry))) × (now (answer .exit) ≡ pgnCells pgn (byPgnOf pgn (now (payload .entry)) (length (now (padding .entry))) (length (now (readings .entry))))))) ⌝ }
+{
+    match records::decode_pgn_into(pgn, payload, padding, readings) {
+        ByPgn::Known(decoded) => {
+            tell_decoded(answer, 0, decoded);
+            status_of(decoded)
+        }
+        ByPgn::Unknown => {
+            *answer = [0, 0, pgn as u64, 0, 0];
+            15
+        }
+    }
+}
+
+// The version of these calls and layouts.
+#[no_mangle]
+pub extern "C" fn samopute_version() -> u32
+    ensures { λ r. ⌜ r ≡ versionOf ⌝ }
+{
+    0x1_0000
+}
