@@ -1,0 +1,119 @@
+//! Reads GNSS payloads in NMEA 2000 form, and never guesses: a call answers readings, or a numbered refusal.
+//!
+//! This is the boundary of Samopute with Rust types. The library behind it is proved to meet its contracts; this crate is
+//! not, and is kept small: `sys` has all of its unsafe code, the rest turns numbers into types. It needs `core` alone and
+//! uses no heap: the buffers are the caller's, in a [`Decoder`].
+//!
+//! # Building
+//!
+//! The static library comes first: `rt staticlib samopute_c` at the root of the repository makes it, for x86-64 Linux. The
+//! build script looks for it in `target/staticlib` there, or in the folder that `SAMOPUTE_LIB_DIR` names.
+//!
+//! # Frames in, readings out
+//!
+//! Four messages are built in: 129025, 129026, 129029 and 130900. docs/MESSAGES.md says what their fields mean.
+//!
+//! ```
+//! use samopute::{Decoder, Value};
+//!
+//! let payload = [0x2A, 0xFC, 0x5C, 0x3D, 0xC0, 0x98, 0xFF, 0xFF];
+//! let mut decoder = Decoder::<8>::new(); // room for 8 readings
+//! let decoded = decoder.decode_pgn(129026, &payload);
+//!
+//! assert_eq!(decoded.end(), Ok(64)); // in bits
+//! let speed = decoded.readings().find(|r| r.field == 4).unwrap();
+//! assert!(speed.is_available());
+//! assert_eq!(speed.raw, Some(0x98C0));
+//! assert_eq!(speed.value, Value::F32(39104.0 * 0.01)); // m/s
+//! ```
+//!
+//! # A refusal
+//!
+//! The readings before it stand. It has document 01's number, and carries what that document says.
+//!
+//! ```
+//! use samopute::{Decoder, Refusal};
+//!
+//! let mut decoder = Decoder::<8>::new();
+//! let decoded = decoder.decode_pgn(129026, &[0x2A, 0xFC, 0x5C, 0x3D, 0xC0]);
+//! assert_eq!(decoded.readings().count(), 3);
+//! assert_eq!(decoded.end(), Err(Refusal::CutShort { field: 4 }));
+//! assert_eq!(decoded.end().unwrap_err().number(), 4);
+//! ```
+//!
+//! # A table of your own
+//!
+//! A table is words, built in constants: a head, a word for each field, a word for each set.
+//!
+//! ```
+//! use samopute::{Decoder, Field, Head, Kind, Resolution, Table, Value};
+//!
+//! const WORDS: [u64; 3] = [
+//!     Head::of(2, 0).word(),
+//!     Field::new(Kind::Number, 16).signed().scaled(Resolution::Double(0.5)).word(),
+//!     Field::new(Kind::StringLz, 0).word(),
+//! ];
+//!
+//! let table = Table::new(&WORDS);
+//! assert_eq!(table.check(), Ok(()));
+//!
+//! let mut decoder = Decoder::<2>::new();
+//! let decoded = decoder.decode(table, &[0xFE, 0xFF, 2, b'A', b'B']);
+//! let values: Vec<Value> = decoded.readings().map(|r| r.value).collect();
+//! assert_eq!(values, [Value::F64(-1.0), Value::Bytes { bytes: b"AB", encoding: None }]);
+//! ```
+//!
+//! # Bits
+//!
+//! [`BitReader`] and [`BitWriter`] are the bit cursors. Bit i of a buffer is bit i mod 8 of byte i div 8, lowest first.
+//!
+//! ```
+//! let mut reader = samopute::BitReader::new(&[0xF0, 0x1F]);
+//! reader.seek(4);
+//! assert_eq!(reader.read_u64(9), Ok(511));
+//! assert_eq!(reader.cursor(), 13);
+//! ```
+#![no_std]
+#![deny(unsafe_op_in_unsafe_fn, missing_docs)]
+#![deny(unsafe_code)]
+
+#[cfg(not(target_pointer_width = "64"))]
+compile_error!("the static library is for x86-64 Linux: a count of this crate has 64 bits");
+
+mod bits;
+mod decode;
+mod layout;
+mod refusal;
+#[allow(unsafe_code)]
+mod sys;
+mod table;
+mod value;
+
+pub use crate::bits::{BitReader, BitWriter};
+pub use crate::decode::{Decoded, Decoder, Reading, Readings};
+pub use crate::layout::{BUFFER_MAX, PAYLOAD_MAX, ROOM_ENOUGH};
+pub use crate::refusal::{Refusal, Rule};
+pub use crate::table::{Field, Head, Kind, Resolution, Scaled, Set, Table};
+pub use crate::value::{Availability, Value};
+
+/// The version of the library that is linked.
+#[derive(Clone, Copy, Debug, PartialEq, Eq, PartialOrd, Ord)]
+pub struct Version {
+    /// A library of another major is not the one that this crate is for.
+    pub major: u32,
+    /// What was added within a major.
+    pub minor: u32,
+}
+
+/// Asks the library for its version. This crate is for 1.0.
+///
+/// ```
+/// assert_eq!(samopute::version(), samopute::Version { major: 1, minor: 0 });
+/// ```
+pub fn version() -> Version {
+    let number = sys::version();
+    Version {
+        major: number / 65536,
+        minor: number % 65536,
+    }
+}

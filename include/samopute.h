@@ -1,0 +1,370 @@
+/*
+ * The boundary of Samopute for C99 and C++: GNSS payloads in NMEA 2000 form, in; readings or a numbered refusal, out.
+ *
+ * `rt staticlib samopute_c` makes target/staticlib/libsamopute_c.a for x86-64 Linux. It has no heap and no global state:
+ * every buffer is lent by the caller for the time of the call, and threads may call at once on buffers of their own.
+ *
+ * A slice is a pointer and a length. Nothing outside it is read or written, so with a length of 0 the pointer is never
+ * followed. Bytes need no alignment; `words` and `answer` are arrays of uint64_t. A buffer that is written must not
+ * overlap any other buffer of the same call. Every call takes any numbers and any bytes.
+ *
+ * README.md says what is read, docs/MESSAGES.md what the fields of the built-in messages mean.
+ */
+#ifndef SAMOPUTE_H
+#define SAMOPUTE_H
+
+#include <stddef.h>
+#include <stdint.h>
+#include <string.h>
+
+#ifdef __cplusplus
+extern "C" {
+#endif
+
+/* ---- Numbers and names ------------------------------------------------------------------------------------------- */
+
+/* The version that this header describes. samopute_version() answers that of the library. */
+#define SAMOPUTE_VERSION_MAJOR 1
+#define SAMOPUTE_VERSION_MINOR 0
+#define SAMOPUTE_VERSION (SAMOPUTE_VERSION_MAJOR * 65536 + SAMOPUTE_VERSION_MINOR)
+
+/* Sizes, in bytes unless they say otherwise. */
+#define SAMOPUTE_PAYLOAD_MAX 223      /* the longest payload that is decoded */
+#define SAMOPUTE_PADDING_LENGTH 223   /* the padding run: of just this length, else refusal 7 */
+#define SAMOPUTE_PREFIX_LENGTH 8      /* the count in front of the records */
+#define SAMOPUTE_RECORD_LENGTH 64     /* a record: one reading */
+#define SAMOPUTE_ROOM_ENOUGH 1785     /* readings: with room for so many there is no refusal 9 */
+#define SAMOPUTE_BUFFER_MAX 65536     /* the longest buffer of a bit call */
+
+/* The length of a readings buffer with room for so many readings. */
+#define SAMOPUTE_READINGS_LENGTH(room) (SAMOPUTE_PREFIX_LENGTH + SAMOPUTE_RECORD_LENGTH * (size_t)(room))
+
+/* The element of a reading that is in no set: 2^64 - 1. */
+#define SAMOPUTE_NO_ELEMENT UINT64_MAX
+
+/*
+ * The refusals, with what each carries. 1 to 3 and 6 are those of the bit calls, 1 to 5, 7 to 9 and 15 those of
+ * decode, where 1 to 3 carry the field first. 10 and 11 are those of samopute_raw_of, which carry nothing there.
+ * 12 and 13 are of writing and 14 of the programs: no call of this header answers them.
+ */
+enum samopute_status {
+    SAMOPUTE_DONE = 0,              /* no refusal */
+    SAMOPUTE_WIDTH = 1,             /* width 0, or over the call's maximum: maximum, width */
+    SAMOPUTE_BEYOND = 2,            /* beyond the buffer: asked, available */
+    SAMOPUTE_UNALIGNED = 3,         /* byte slice at a cursor not a multiple of 8: cursor */
+    SAMOPUTE_CUT_SHORT = 4,         /* number field cut short; string length byte over 223: field */
+    SAMOPUTE_TOO_MANY_ELEMENTS = 5, /* group count over its maximum: set, count, maximum */
+    SAMOPUTE_BUFFER_TOO_LONG = 6,   /* bit call on a buffer over 65,536 bytes: length */
+    SAMOPUTE_WRONG_LENGTH = 7,      /* payload over 223 bytes, or padding run not of 223: length (payload's first) */
+    SAMOPUTE_TABLE_REFUSED = 8,     /* table refused: rule (1 for a to 8 for h), index of field or set (0 for a) */
+    SAMOPUTE_NO_ROOM = 9,           /* a reading finds no room: field */
+    SAMOPUTE_OUT_OF_RANGE = 10,     /* value out of its field's range */
+    SAMOPUTE_OTHER_KIND = 11,       /* value of another kind */
+    SAMOPUTE_VALUE_COUNT = 12,      /* a value is missing, or values are left over */
+    SAMOPUTE_TEXT_TOO_LONG = 13,    /* text or bytes too long, or past the lent text */
+    SAMOPUTE_MALFORMED_LINE = 14,   /* program line malformed */
+    SAMOPUTE_UNKNOWN_PGN = 15       /* a PGN that is not built in: the PGN */
+};
+
+/* The rules that a table is held to, a to h, as refusal 8 carries them. */
+enum samopute_rule {
+    SAMOPUTE_RULE_A = 1, /* counts: 1 to 64 fields, at most 4 sets; length and minimum 1 to 223, minimum <= length */
+    SAMOPUTE_RULE_B = 2, /* a kind that cannot be read: Decimal, Unimplemented or no kind */
+    SAMOPUTE_RULE_C = 3, /* a width that its kind does not take */
+    SAMOPUTE_RULE_D = 4, /* a resolution where none may be, or one outside 2^-64 to 2^20 */
+    SAMOPUTE_RULE_E = 5, /* signed where it may not be; Date or Mmsi without resolution, not of 16 or 32 bits */
+    SAMOPUTE_RULE_F = 6, /* a StringLz that is not the last field, or in a set */
+    SAMOPUTE_RULE_G = 7, /* sets out of order, overlapping, out of the table, of no width; size 0; maximum not 1 to 255 */
+    SAMOPUTE_RULE_H = 8  /* a set without a counter before it that is a plain Number or Lookup of 1 to 32 bits */
+};
+
+/* The kinds of a field. */
+enum samopute_kind {
+    SAMOPUTE_NUMBER = 0,
+    SAMOPUTE_FLOAT = 1,
+    SAMOPUTE_LOOKUP = 2,
+    SAMOPUTE_INDIRECT_LOOKUP = 3,
+    SAMOPUTE_BIT_LOOKUP = 4,
+    SAMOPUTE_PGN = 5,
+    SAMOPUTE_DATE = 6,
+    SAMOPUTE_TIME = 7,
+    SAMOPUTE_DURATION = 8,
+    SAMOPUTE_MMSI = 9,
+    SAMOPUTE_DECIMAL = 10,
+    SAMOPUTE_STRING_FIX = 11,
+    SAMOPUTE_STRING_LZ = 12,
+    SAMOPUTE_STRING_LAU = 13,
+    SAMOPUTE_BINARY = 14,
+    SAMOPUTE_RESERVED = 15,
+    SAMOPUTE_SPARE = 16,
+    SAMOPUTE_ISO_NAME = 17,
+    SAMOPUTE_UNIMPLEMENTED = 18
+};
+
+/* The mark of a resolution: single makes the product in f32, double in f64. */
+enum samopute_mark { SAMOPUTE_MARK_NONE = 0, SAMOPUTE_MARK_SINGLE = 1, SAMOPUTE_MARK_DOUBLE = 2 };
+
+/* The kinds of a value. */
+enum samopute_value_kind {
+    SAMOPUTE_VALUE_U64 = 1,
+    SAMOPUTE_VALUE_U32 = 2,
+    SAMOPUTE_VALUE_U16 = 3,
+    SAMOPUTE_VALUE_U8 = 4,
+    SAMOPUTE_VALUE_I64 = 5,
+    SAMOPUTE_VALUE_I32 = 6,
+    SAMOPUTE_VALUE_I16 = 7,
+    SAMOPUTE_VALUE_I8 = 8,
+    SAMOPUTE_VALUE_F64 = 9,
+    SAMOPUTE_VALUE_F32 = 10,
+    SAMOPUTE_VALUE_BYTES = 11
+};
+
+enum samopute_availability { SAMOPUTE_AVAILABLE = 0, SAMOPUTE_NOT_AVAILABLE = 1 };
+
+/* ---- Tables ------------------------------------------------------------------------------------------------------ */
+
+/*
+ * A table in words is a head, a word for each field, a word for each set. These build the words, also in constants.
+ *
+ * A number that does not fit its place becomes the largest that does, which the table check refuses: it is never taken
+ * for another number. (A mark becomes 3, which says nothing: the field is unscaled.)
+ */
+#define SAMOPUTE_AT_MOST(most, number) ((uint64_t)(number) < (uint64_t)(most) ? (uint64_t)(number) : (uint64_t)(most))
+#define SAMOPUTE_16(number) SAMOPUTE_AT_MOST(0xFFFF, number)
+
+/* `length` and `minimum` are in bytes; 0 is none. */
+#define SAMOPUTE_HEAD(fields, sets, length, minimum)                                                                   \
+    (SAMOPUTE_16(fields) | SAMOPUTE_16(sets) << 16 | SAMOPUTE_16(length) << 32 | SAMOPUTE_16(minimum) << 48)
+
+/* `width` is in bits, 0 is none; `resolution` is the bits of an f32, as samopute_resolution answers them. */
+#define SAMOPUTE_FIELD(kind, width, is_signed, mark, resolution)                                                       \
+    (SAMOPUTE_AT_MOST(0xFF, kind) | SAMOPUTE_16(width) << 8 | (uint64_t)((is_signed) ? 1 : 0) << 24 |                  \
+     SAMOPUTE_AT_MOST(3, mark) << 25 | SAMOPUTE_AT_MOST(0xFFFFFFFF, resolution) << 32)
+
+/* `start` and `counter` are fields, counted from 0; `size` is in fields, `maximum` in elements. */
+#define SAMOPUTE_SET(start, size, counter, maximum)                                                                    \
+    (SAMOPUTE_16(start) | SAMOPUTE_16(size) << 16 | SAMOPUTE_16(counter) << 32 | SAMOPUTE_16(maximum) << 48)
+
+/* The bits of an f32: 0x3C23D70A for 0.01f, 0x38D1B717 for 0.0001f. */
+static inline uint32_t samopute_resolution(float resolution)
+{
+    uint32_t bits;
+    memcpy(&bits, &resolution, sizeof bits);
+    return bits;
+}
+
+/* ---- Calls ------------------------------------------------------------------------------------------------------- */
+
+/* The version of the library: major * 65536 + minor. */
+uint32_t samopute_version(void);
+
+/*
+ * Reads a payload by a table. Answers 0, or the number of the refusal.
+ *
+ * padding    223 bytes. Where the table asks for filling, the filled payload is put at its front and the rest is kept;
+ *            else all of it is kept.
+ * readings   of any length. Its first 8 bytes get the count, the low byte first; then come records of 64 bytes, each a
+ *            struct samopute_reading below, its numbers with the low byte first on every machine. There is room for
+ *            (readings_length - 8) / 64 readings, and for none under 8 bytes, where the count is not written either.
+ *            Every byte after the last record is kept.
+ * answer[0]  the count of readings
+ * answer[1]  1 if the working payload is the front of the padding run, 0 if it is the received payload
+ * answer[2], answer[3], answer[4]
+ *            the end in bits, 0, 0; or what the refusal carries, then 0
+ *
+ * Refusals 7 and 8 (and 15) touch neither padding nor readings, and answer[0] and answer[1] are 0. Any other refusal
+ * leaves the readings made before it, with their count.
+ */
+uint32_t samopute_decode(const uint64_t *words, size_t word_count, const uint8_t *payload, size_t payload_length,
+                         uint8_t *padding, size_t padding_length, uint8_t *readings, size_t readings_length,
+                         uint64_t answer[5]);
+
+/* The same by a built-in table, that of PGN 129025, 129026, 129029 or 130900. Any other PGN is refusal 15. */
+uint32_t samopute_decode_pgn(uint32_t pgn, const uint8_t *payload, size_t payload_length, uint8_t *padding,
+                             size_t padding_length, uint8_t *readings, size_t readings_length, uint64_t answer[5]);
+
+/* Checks a table. 0: accepted. 8: answer[0] is the rule, 1 for a to 8 for h, answer[1] the field or the set. */
+uint32_t samopute_check(const uint64_t *words, size_t word_count, uint64_t answer[3]);
+
+/*
+ * The bit calls. Bit i of a buffer is bit i mod 8 of byte i div 8, lowest first. `cursor` is a bit, `width` a count of
+ * bits, `count` one of bytes. They answer 0 or the refusal's number, and lay into `answer`:
+ *
+ * answer[0]  the cursor after the call, where it was if refused
+ * answer[1], answer[2]
+ *            the number read and 0 (reads); the first byte and the count (read_slice); 0 and 0 (all else); or what the
+ *            refusal carries, then 0. Refusal 2 counts bits, in slice calls bytes, and asked is then the end.
+ *
+ * A refused call changes no buffer. A write puts the low bits of the value and keeps every other bit.
+ */
+uint32_t samopute_read_u64(const uint8_t *buffer, size_t length, size_t cursor, uint32_t width, uint64_t answer[3]);
+uint32_t samopute_read_u32(const uint8_t *buffer, size_t length, size_t cursor, uint32_t width, uint64_t answer[3]);
+uint32_t samopute_read_u16(const uint8_t *buffer, size_t length, size_t cursor, uint32_t width, uint64_t answer[3]);
+uint32_t samopute_read_u8(const uint8_t *buffer, size_t length, size_t cursor, uint32_t width, uint64_t answer[3]);
+uint32_t samopute_advance(const uint8_t *buffer, size_t length, size_t cursor, uint32_t width, uint64_t answer[3]);
+uint32_t samopute_read_slice(const uint8_t *buffer, size_t length, size_t cursor, size_t count, uint64_t answer[3]);
+
+uint32_t samopute_write_u64(uint8_t *buffer, size_t length, size_t cursor, uint64_t value, uint32_t width,
+                            uint64_t answer[3]);
+uint32_t samopute_write_u32(uint8_t *buffer, size_t length, size_t cursor, uint32_t value, uint32_t width,
+                            uint64_t answer[3]);
+uint32_t samopute_write_u16(uint8_t *buffer, size_t length, size_t cursor, uint16_t value, uint32_t width,
+                            uint64_t answer[3]);
+uint32_t samopute_write_u8(uint8_t *buffer, size_t length, size_t cursor, uint8_t value, uint32_t width,
+                           uint64_t answer[3]);
+uint32_t samopute_write_advance(uint8_t *buffer, size_t length, size_t cursor, uint32_t width, uint64_t answer[3]);
+uint32_t samopute_write_slice(uint8_t *buffer, size_t length, size_t cursor, const uint8_t *source, size_t count,
+                              uint64_t answer[3]);
+
+/* The bits from the cursor to the end of the buffer, 0 past it. */
+size_t samopute_bits_remaining(const uint8_t *buffer, size_t length, size_t cursor);
+
+/*
+ * The value of a raw, by its field. Answers the value's kind, 1 to 10. answer[0]: the value's bits, as in a record;
+ * answer[1]: 0 if it is available, else 1; answer[2]: the elements that the raw means as a counter.
+ */
+uint32_t samopute_scale(uint32_t kind, uint32_t width, uint32_t is_signed, uint32_t mark, uint32_t resolution,
+                        uint64_t raw, uint64_t answer[3]);
+
+/* The raw of a value. 0: answer[0] is the raw. 10: out of range. 11: the field takes no such value. */
+uint32_t samopute_raw_of(uint32_t kind, uint32_t width, uint32_t is_signed, uint32_t mark, uint32_t resolution,
+                         uint32_t value_kind, uint64_t value, uint64_t answer[3]);
+
+/* ---- Readings ---------------------------------------------------------------------------------------------------- */
+
+/*
+ * A reading. The layout is that of a record on a machine that puts the low byte first; samopute_reading_at makes one
+ * from the bytes on any machine.
+ */
+struct samopute_reading {
+    uint64_t field;       /* counted from 0 */
+    uint64_t element;     /* of its set, counted from 0; SAMOPUTE_NO_ELEMENT outside sets */
+    uint64_t start;       /* its first bit in the working payload */
+    uint64_t bits;        /* the bits that it takes */
+    uint8_t availability; /* enum samopute_availability */
+    uint8_t value_kind;   /* enum samopute_value_kind */
+    uint8_t has_raw;      /* 1 if `raw` is one: texts and whole-byte Binaries have none */
+    uint8_t has_encoding; /* 1 if `encoding` is one: a StringLau with an encoding byte */
+    uint8_t encoding;
+    uint8_t reserved[3];  /* 0 */
+    uint64_t raw;         /* 0 if there is none */
+    uint64_t value;       /* a number's bits (below), or the first byte in the working payload, 0 if empty */
+    uint64_t length;      /* of bytes; 0 of a number */
+};
+
+typedef char samopute_reading_is_a_record[sizeof(struct samopute_reading) == SAMOPUTE_RECORD_LENGTH ? 1 : -1];
+
+/* Eight bytes, the low one first. */
+static inline uint64_t samopute_word_at(const uint8_t *bytes)
+{
+    uint64_t word = 0;
+    int i;
+    for (i = 7; i >= 0; i--) {
+        word = word << 8 | bytes[i];
+    }
+    return word;
+}
+
+/*
+ * The count in front of a readings buffer, 0 under 8 bytes. answer[0] says the same, and also says 0 after refusals 7,
+ * 8 and 15, which leave an earlier count in the buffer.
+ */
+static inline uint64_t samopute_reading_count(const uint8_t *readings, size_t readings_length)
+{
+    return readings_length < SAMOPUTE_PREFIX_LENGTH ? 0 : samopute_word_at(readings);
+}
+
+/* Reading i of a readings buffer, for i below its count. */
+static inline void samopute_reading_at(const uint8_t *readings, size_t i, struct samopute_reading *out)
+{
+    const uint8_t *record = readings + SAMOPUTE_READINGS_LENGTH(i);
+    out->field = samopute_word_at(record);
+    out->element = samopute_word_at(record + 8);
+    out->start = samopute_word_at(record + 16);
+    out->bits = samopute_word_at(record + 24);
+    out->availability = record[32];
+    out->value_kind = record[33];
+    out->has_raw = record[34];
+    out->has_encoding = record[35];
+    out->encoding = record[36];
+    memcpy(out->reserved, record + 37, sizeof out->reserved);
+    out->raw = samopute_word_at(record + 40);
+    out->value = samopute_word_at(record + 48);
+    out->length = samopute_word_at(record + 56);
+}
+
+/* The payload that the readings stand in: the received one, or the filled one at the front of the padding run. */
+static inline const uint8_t *samopute_working_payload(const uint64_t answer[5], const uint8_t *payload,
+                                                      const uint8_t *padding)
+{
+    return answer[1] ? padding : payload;
+}
+
+/* A value's bits as the number that they are: two's complement, or the pattern of an f64 or an f32. */
+static inline int64_t samopute_bits_i64(uint64_t value)
+{
+    int64_t number;
+    memcpy(&number, &value, sizeof number);
+    return number;
+}
+
+static inline double samopute_bits_f64(uint64_t value)
+{
+    double number;
+    memcpy(&number, &value, sizeof number);
+    return number;
+}
+
+static inline float samopute_bits_f32(uint64_t value)
+{
+    uint32_t low = (uint32_t)value;
+    float number;
+    memcpy(&number, &low, sizeof number);
+    return number;
+}
+
+/* 1 and the value, if it is an integer that an int64_t holds. Else 0, and `out` is kept. */
+static inline int samopute_value_i64(const struct samopute_reading *reading, int64_t *out)
+{
+    if (reading->value_kind < SAMOPUTE_VALUE_U64 || reading->value_kind > SAMOPUTE_VALUE_I8) {
+        return 0;
+    }
+    if (reading->value_kind == SAMOPUTE_VALUE_U64 && reading->value > INT64_MAX) {
+        return 0;
+    }
+    *out = samopute_bits_i64(reading->value);
+    return 1;
+}
+
+/* 1 and the value, if it is a number: one over 2^53 is rounded. Else 0, and `out` is kept. */
+static inline int samopute_value_double(const struct samopute_reading *reading, double *out)
+{
+    switch (reading->value_kind) {
+    case SAMOPUTE_VALUE_U64:
+    case SAMOPUTE_VALUE_U32:
+    case SAMOPUTE_VALUE_U16:
+    case SAMOPUTE_VALUE_U8:
+        *out = (double)reading->value;
+        return 1;
+    case SAMOPUTE_VALUE_I64:
+    case SAMOPUTE_VALUE_I32:
+    case SAMOPUTE_VALUE_I16:
+    case SAMOPUTE_VALUE_I8:
+        *out = (double)samopute_bits_i64(reading->value);
+        return 1;
+    case SAMOPUTE_VALUE_F64:
+        *out = samopute_bits_f64(reading->value);
+        return 1;
+    case SAMOPUTE_VALUE_F32:
+        *out = (double)samopute_bits_f32(reading->value);
+        return 1;
+    default:
+        return 0;
+    }
+}
+
+#ifdef __cplusplus
+}
+#endif
+
+#endif

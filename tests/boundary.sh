@@ -1,0 +1,224 @@
+#!/usr/bin/env bash
+# The boundary as C and Rust see it: the header, the library by itself, the C example, hostile input, the stack that it
+# takes and the Rust crate. Wants target/staticlib/libsamopute_c.a (rt staticlib samopute_c), or the folder of it in
+# SAMOPUTE_LIB_DIR. Last line: 'N passed, M failed'.
+set -u
+cd "$(dirname "$0")/.." || exit 1
+folder=$(realpath -m "${SAMOPUTE_LIB_DIR:-target/staticlib}")
+library=$folder/libsamopute_c.a
+cc=${CC:-gcc}
+cxx=${CXX:-g++}
+work=$(mktemp -d)
+trap 'rm -rf "$work"' EXIT
+passed=0
+failed=0
+
+# The rounds of the quick run, and the most bytes of stack that a call may take: docs/BENCHMARKS.md has what was measured.
+rounds=1000000
+checked_rounds=300000
+stack_rounds=5000
+stack_limit=2048
+
+# test_of NAME COMMAND..: one test by the command's exit status. What it says is shown if it fails.
+test_of() {
+    local name=$1
+    shift
+    if "$@" >"$work/log" 2>&1; then
+        passed=$((passed + 1))
+        echo "ok boundary: $name"
+    else
+        failed=$((failed + 1))
+        echo "FAILED boundary: $name"
+        tail -n 20 "$work/log"
+        return 1
+    fi
+}
+
+# told: the last line of what the last test said.
+told() { echo "   $(tail -n 1 "$work/log")"; }
+
+# left_out WHAT WHY: a test that cannot be run here. Where CI is true it must be.
+left_out() {
+    if [ "${CI:-}" = true ]; then
+        failed=$((failed + 1))
+        echo "FAILED boundary: $1 cannot be run: $2"
+    else
+        echo "NOT RUN, NOT COUNTED: $1 ($2)"
+    fi
+}
+
+finish() {
+    echo "$passed passed, $failed failed"
+    [ "$failed" -eq 0 ] && [ "$passed" -gt 0 ]
+    exit
+}
+
+# The names of the calls that the header declares, one a line.
+declared() { sed -n 's/^\(uint32_t\|size_t\) \(samopute_[a-z0-9_]*\)(.*/\2/p' include/samopute.h | sort; }
+
+# A file that takes the address of each call and uses each macro: C and C++ alike.
+make_user() {
+    echo '#include "samopute.h"'
+    echo 'typedef void (*any_call)(void);'
+    echo 'extern const any_call calls[];'
+    echo 'const any_call calls[] = {'
+    declared | sed 's/.*/    (any_call)&,/'
+    cat <<'END'
+};
+static const uint64_t table[] = {
+    SAMOPUTE_HEAD(2, 1, 223, 1),
+    SAMOPUTE_FIELD(SAMOPUTE_NUMBER, 8, 0, SAMOPUTE_MARK_NONE, 0),
+    SAMOPUTE_FIELD(SAMOPUTE_NUMBER, 16, 1, SAMOPUTE_MARK_DOUBLE, 0x3C23D70A),
+    SAMOPUTE_SET(1, 1, 0, 255),
+};
+int main(void)
+{
+    uint8_t readings[SAMOPUTE_READINGS_LENGTH(1)] = {1, 0, 0, 0, 0, 0, 0, 0, 5};
+    struct samopute_reading reading;
+    uint64_t answer[3];
+    int64_t whole = 0;
+    double number = 0;
+    samopute_reading_at(readings, 0, &reading);
+    if (samopute_reading_count(readings, sizeof readings) != 1 || reading.field != 5) {
+        return 1;
+    }
+    reading.value_kind = SAMOPUTE_VALUE_I8;
+    reading.value = (uint64_t)-3;
+    if (!samopute_value_i64(&reading, &whole) || whole != -3) {
+        return 2;
+    }
+    reading.value_kind = SAMOPUTE_VALUE_F32;
+    reading.value = 0x3FC00000;
+    if (samopute_value_i64(&reading, &whole) || !samopute_value_double(&reading, &number) || number != 1.5) {
+        return 3;
+    }
+    reading.value_kind = SAMOPUTE_VALUE_BYTES;
+    if (samopute_value_double(&reading, &number)) {
+        return 4;
+    }
+    if (samopute_resolution(0.01f) != 0x3C23D70A) {
+        return 5;
+    }
+    /* A number that does not fit is refused, never taken for another. */
+    if (SAMOPUTE_FIELD(257, 65792, 2, 0, 0) != SAMOPUTE_FIELD(255, 65535, 1, 0, 0)) {
+        return 6;
+    }
+    return samopute_check(table, sizeof table / sizeof table[0], answer) == SAMOPUTE_DONE ? 0 : 7;
+}
+END
+}
+
+# header COMPILER FLAGS..: the header compiles without a word, every call is in the library, and the helpers work.
+header() {
+    local suffix=c
+    case $2 in -std=c++*) suffix=cpp ;; esac
+    make_user >"$work/user.$suffix" &&
+        "$@" -Werror -I include "$work/user.$suffix" "$library" -o "$work/user" && "$work/user"
+}
+
+# The library's calls are those of the header, no more.
+same_calls() {
+    nm -g --defined-only "$work/all.o" | awk '{ print $3 }' | sort >"$work/there"
+    declared | diff - "$work/there"
+}
+
+# Nothing is wanted from elsewhere, but for what a compiler puts in for copies.
+wants_nothing() {
+    local list
+    nm -u "$work/all.o" | awk '{ print $2 }' | sort >"$work/wanted"
+    list=$(paste -s -d ' ' "$work/wanted")
+    echo "wanted from elsewhere: ${list:-nothing}"
+    ! grep -v -x -e memcpy -e memset -e memmove "$work/wanted"
+}
+
+# No section of some size is writable. (.data.rel.ro is: the loader alone writes it, once.)
+no_state() {
+    readelf -SW "$work/all.o" | sed -n 's/^ *\[ *[0-9]*\] //p' |
+        awk '$7 ~ /W/ && $5 !~ /^0+$/ && $1 !~ /^\.data\.rel\.ro/ { print "writable: " $1 " of 0x" $5; n++ } END { exit n > 0 }'
+}
+
+example() {
+    "$cc" -std=c99 -Wall -Wextra -Wpedantic -Werror -I include examples/c/decode.c "$library" -o "$work/decode" &&
+        "$work/decode" >"$work/decoded" && diff "$work/decoded" examples/c/decode.stdout
+}
+
+# built FLAGS.. -- PROGRAM ARGUMENTS..: builds tests/PROGRAM.c and runs it.
+built() {
+    local flags=()
+    while [ "$1" != -- ]; do
+        flags+=("$1")
+        shift
+    done
+    shift
+    "$cc" -std=c11 -Wall -Wextra -Wpedantic -Werror "${flags[@]}" "tests/$1.c" "$library" -o "$work/$1" || return 1
+    local program=$1
+    shift
+    "$work/$program" "$@"
+}
+
+# The crate wants what its Cargo.toml names.
+fit_cargo() {
+    local minor
+    command -v cargo >/dev/null && command -v rustc >/dev/null || return 1
+    minor=$(rustc --version | sed -n 's/^rustc 1\.\([0-9]*\)\..*/\1/p')
+    [ -n "$minor" ] && [ "$minor" -ge 87 ]
+}
+
+# The tests of the Rust crate, each counted.
+rust() {
+    local status good bad
+    SAMOPUTE_LIB_DIR=$folder CARGO_TARGET_DIR=${CARGO_TARGET_DIR:-$work/cargo} \
+        cargo test --offline --manifest-path bindings/rust/Cargo.toml >"$work/log" 2>&1
+    status=$?
+    good=$(grep -c '^test .* \.\.\. ok$' "$work/log")
+    bad=$(grep -c '^test .* \.\.\. FAILED$' "$work/log")
+    if [ "$bad" -eq 0 ] && { [ "$status" -ne 0 ] || [ "$good" -eq 0 ]; }; then bad=1; fi
+    passed=$((passed + good))
+    failed=$((failed + bad))
+    if [ "$bad" -eq 0 ]; then
+        echo "ok boundary: the Rust crate, $good tests"
+    else
+        echo "FAILED boundary: the Rust crate"
+        tail -n 40 "$work/log"
+    fi
+}
+
+if [ ! -f "$library" ]; then
+    failed=1
+    echo "FAILED boundary: libsamopute_c.a is missing: run rt staticlib samopute_c first"
+    finish
+fi
+
+if command -v ld >/dev/null && command -v nm >/dev/null && command -v readelf >/dev/null; then
+    test_of "the archive is one object" ld -r --whole-archive "$library" -o "$work/all.o"
+    test_of "the library wants nothing but itself" wants_nothing && told
+    test_of "the library has no writable data" no_state
+    test_of "the library has the calls of the header, no more" same_calls
+else
+    left_out "the library by itself" "no ld, nm or readelf is at hand"
+fi
+
+if command -v "$cc" >/dev/null; then
+    test_of "the header in C99" header "$cc" -std=c99 -Wall -Wextra -Wpedantic
+    test_of "the header in C11" header "$cc" -std=c11 -Wall -Wextra -Wpedantic
+    test_of "the C example" example
+    test_of "hostile input, $rounds rounds" built -O2 -- hostile "$rounds" 1 && told
+    test_of "hostile input under the address checker, $checked_rounds rounds" \
+        built -O1 -g -fsanitize=address,undefined -fno-sanitize-recover=all -- hostile "$checked_rounds" 2 && told
+    test_of "the stack of each call" built -O2 -- stack "$stack_rounds" 1 "$stack_limit" && told
+else
+    left_out "the boundary from C" "no $cc is at hand"
+fi
+
+if command -v "$cxx" >/dev/null; then
+    test_of "the header in C++17" header "$cxx" -std=c++17 -Wall -Wextra
+else
+    left_out "the boundary from C++" "no $cxx is at hand"
+fi
+
+if fit_cargo; then
+    rust
+else
+    left_out "the Rust crate" "no cargo with rustc 1.87 or newer is at hand"
+fi
+finish
