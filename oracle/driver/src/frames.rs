@@ -1,6 +1,8 @@
 //! The printing program of document 01: what it prints for a line, by the model, and a list of lines.
 pub mod by_hand;
 mod lines;
+pub mod million;
+pub mod rust;
 
 use crate::readings::answer::{self, fault_text};
 use crate::readings::case::{AMPLE, Case};
@@ -8,6 +10,7 @@ use crate::tables::built_in::{table_129025, table_129026, table_129029, table_13
 use crate::tables::words::pack;
 use model::reading::{Content, PADDING, Reading};
 use model::tables::Table;
+use std::io::{self, BufRead, BufWriter, Write, stdin, stdout};
 
 const MALFORMED: &str = "F 14\n";
 
@@ -33,6 +36,20 @@ pub fn print_cases() {
 pub fn print_answers() {
     for line in lines::all() {
         print!("{}", printed(&line));
+    }
+}
+
+/// Answers lines of standard input. True if all could be read and printed.
+pub fn print_by_model() -> bool {
+    let mut out = BufWriter::new(stdout().lock());
+    let mut answer = |line: io::Result<String>| out.write_all(printed(&line?).as_bytes());
+    let answered = stdin().lock().lines().try_for_each(&mut answer);
+    match answered.and_then(|()| out.flush()) {
+        Ok(()) => true,
+        Err(error) => {
+            eprintln!("{error}");
+            false
+        }
     }
 }
 

@@ -15,6 +15,8 @@ mod sides;
 mod stand_ins;
 mod tables;
 
+use frames::rust::row;
+use readings::boundary::compare::{self as boundary, FULL, QUICK};
 use readings::lines::{Side, answer_input};
 use readings::program::Program;
 use report::Report;
@@ -23,12 +25,14 @@ use std::process::ExitCode;
 const USAGE: &str = "usage: driver compare [--quick] | compare-numbers [--quick] \
                      | compare-tables [--quick] \
                      | compare-readings [--quick] [--program PATH] \
+                     | compare-boundary [--quick | --count DECODES] \
                      | sample --cases | sample --answers \
                      | sample-numbers --cases | sample-numbers --answers \
                      | sample-readings --cases | sample-readings --answers \
                      | sample-frames --cases | sample-frames --answers \
+                     | million-frames | print-frames [--by-digits | --by-model] \
                      | answer-readings [--stand-ins | --rust] \
-                     | bench | bench-tables";
+                     | bench | bench-tables | bench-readings [--payloads COUNT]";
 
 fn main() -> ExitCode {
     let arguments: Vec<String> = std::env::args().skip(1).collect();
@@ -45,6 +49,11 @@ fn main() -> ExitCode {
         ["compare-readings", "--program", path] => compare_readings(false, Some(path)),
         ["compare-readings", "--quick", "--program", path]
         | ["compare-readings", "--program", path, "--quick"] => compare_readings(true, Some(path)),
+        ["compare-boundary"] => compare_boundary(FULL),
+        ["compare-boundary", "--quick"] => compare_boundary(QUICK),
+        ["compare-boundary", "--count", count] if is_count(count) => {
+            compare_boundary(count.parse().unwrap_or(0))
+        }
         ["answer-readings"] => answer_input(Side::Model),
         ["answer-readings", "--stand-ins"] => answer_input(Side::Standin),
         ["answer-readings", "--rust"] => answer_input(Side::Rust),
@@ -80,12 +89,24 @@ fn main() -> ExitCode {
             frames::print_answers();
             true
         }
+        ["million-frames"] => frames::million::print(),
+        ["print-frames"] => frames::rust::print(row::formatted),
+        ["print-frames", "--by-model"] => frames::print_by_model(),
+        ["print-frames", "--by-digits"] => frames::rust::print(row::by_digits),
         ["bench"] => {
             bench::run();
             true
         }
         ["bench-tables"] => {
             tables::bench::run();
+            true
+        }
+        ["bench-readings"] => {
+            readings::bench::run(readings::bench::PAYLOADS);
+            true
+        }
+        ["bench-readings", "--payloads", count] if is_count(count) => {
+            readings::bench::run(count.parse().unwrap_or(0));
             true
         }
         _ => {
@@ -100,6 +121,11 @@ fn main() -> ExitCode {
     }
 }
 
+/// Whether an argument is a number from 1 on.
+fn is_count(argument: &str) -> bool {
+    argument.parse::<usize>().is_ok_and(|count| count > 0)
+}
+
 /// True if no test failed.
 fn compare_all(quick: bool) -> bool {
     let mut report = Report::default();
@@ -107,8 +133,14 @@ fn compare_all(quick: bool) -> bool {
     numbers::compare::run(quick, &mut report);
     stand_ins::run(&mut report);
     tables::compare::run(quick, &mut report);
-    readings::compare::run(quick, &Program::find(None), &mut report);
-    frames::by_hand::run(&mut report);
+    compare_payloads(quick, None, &mut report);
+    report.close()
+}
+
+/// True if no test failed. Payloads are read through the C interface, so many or some more.
+fn compare_boundary(decodes: usize) -> bool {
+    let mut report = Report::default();
+    boundary::run(decodes, &mut report);
     report.close()
 }
 
@@ -129,7 +161,13 @@ fn compare_tables(quick: bool) -> bool {
 /// True if no test failed. The program under test is looked for where `rt` puts it.
 fn compare_readings(quick: bool, path: Option<&str>) -> bool {
     let mut report = Report::default();
-    readings::compare::run(quick, &Program::find(path), &mut report);
-    frames::by_hand::run(&mut report);
+    compare_payloads(quick, path, &mut report);
     report.close()
+}
+
+/// Reading payloads by the program, then through the interface.
+fn compare_payloads(quick: bool, path: Option<&str>, report: &mut Report) {
+    readings::compare::run(quick, &Program::find(path), report);
+    boundary::run(if quick { QUICK } else { FULL }, report);
+    frames::by_hand::run(report);
 }

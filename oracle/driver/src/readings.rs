@@ -1,5 +1,7 @@
 //! Readings: a payload read by a table.
 pub mod answer;
+pub mod bench;
+pub mod boundary;
 mod by_hand;
 pub mod case;
 mod cases;
@@ -13,7 +15,7 @@ mod kept;
 pub mod lines;
 mod malformed;
 mod met;
-mod oracles;
+pub mod oracles;
 mod parsed;
 pub mod payloads;
 pub mod program;
@@ -22,7 +24,7 @@ mod sides;
 mod small_tables;
 mod smallest;
 mod test;
-mod told;
+pub mod told;
 mod worked_papers;
 mod worked_sets;
 mod worked_texts;

@@ -188,3 +188,89 @@ mod tables_c {
 pub fn check(words: &[u64], answer: &mut Answer) -> u32 {
     unsafe { tables_c::samopute_check(words.as_ptr(), words.len(), answer) }
 }
+
+/// What a decode fills in: the count of readings, whether the padding run holds the working payload, and
+/// the end or what the refusal carries.
+pub type Decoded = [u64; 5];
+
+mod decode_c {
+    unsafe extern "C" {
+        pub fn samopute_version() -> u32;
+
+        pub fn samopute_decode(
+            words: *const u64,
+            word_count: usize,
+            payload: *const u8,
+            payload_length: usize,
+            padding: *mut u8,
+            padding_length: usize,
+            readings: *mut u8,
+            readings_length: usize,
+            answer: *mut super::Decoded,
+        ) -> u32;
+
+        pub fn samopute_decode_pgn(
+            pgn: u32,
+            payload: *const u8,
+            payload_length: usize,
+            padding: *mut u8,
+            padding_length: usize,
+            readings: *mut u8,
+            readings_length: usize,
+            answer: *mut super::Decoded,
+        ) -> u32;
+    }
+}
+
+/// The version of the interface: the major number times 65536, plus the minor.
+pub fn version() -> u32 {
+    // SAFETY: it takes nothing.
+    unsafe { decode_c::samopute_version() }
+}
+
+// SAFETY, for both decodes: as above, and `answer` has room for five numbers.
+
+/// 0, or the refusal. The readings are a count and records of 64 bytes.
+pub fn decode(
+    words: &[u64],
+    payload: &[u8],
+    padding: &mut [u8],
+    readings: &mut [u8],
+    answer: &mut Decoded,
+) -> u32 {
+    unsafe {
+        decode_c::samopute_decode(
+            words.as_ptr(),
+            words.len(),
+            payload.as_ptr(),
+            payload.len(),
+            padding.as_mut_ptr(),
+            padding.len(),
+            readings.as_mut_ptr(),
+            readings.len(),
+            answer,
+        )
+    }
+}
+
+/// The same by a built-in table; 15 if there is none for the PGN.
+pub fn decode_pgn(
+    pgn: u32,
+    payload: &[u8],
+    padding: &mut [u8],
+    readings: &mut [u8],
+    answer: &mut Decoded,
+) -> u32 {
+    unsafe {
+        decode_c::samopute_decode_pgn(
+            pgn,
+            payload.as_ptr(),
+            payload.len(),
+            padding.as_mut_ptr(),
+            padding.len(),
+            readings.as_mut_ptr(),
+            readings.len(),
+            answer,
+        )
+    }
+}

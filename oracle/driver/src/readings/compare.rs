@@ -6,9 +6,9 @@ use super::differences::{LeftOut, Reason};
 use super::kept::Kept;
 use super::met::Met;
 use super::program::Program;
-use super::sides::{Answers, Asked, Pair};
+use super::sides::{Answers, Asked, Given, Pair};
 use super::small_tables::any_small_table;
-use super::test::{Test, answers_of};
+use super::test::{Test, answers_of, ask_program};
 use super::{by_hand, exhaustive, malformed};
 use crate::cases::SEED;
 use crate::random::Random;
@@ -175,7 +175,8 @@ impl<'a> Set<'a> {
         let waiting = std::mem::take(&mut self.waiting);
         let ours = self.ours(waiting.iter().map(|(case, _)| case));
         for (i, (case, asked)) in waiting.iter().enumerate() {
-            let answers = Answers::new(case, asked, ours.get(i).map(String::as_str));
+            let given = ours.get(i).map(|text| text as &dyn Given);
+            let answers = Answers::new(case, asked, given);
             for test in &mut self.tests {
                 test.compare(&answers);
             }
@@ -208,7 +209,7 @@ impl<'a> Set<'a> {
             let outcome = match (self.program, &self.fault) {
                 (Err(missing), _) if test.pair.is_ours() => Err(missing.clone()),
                 (_, Some(fault)) if test.pair.is_ours() => Err(fault.clone()),
-                (program, _) => test.outcome(program.as_ref().ok()),
+                (program, _) => test.outcome(&|cases| ask_program(program.as_ref().ok(), cases)),
             };
             report.line(&test.name, outcome);
         }

@@ -119,7 +119,7 @@ macro_rules! reading_of {
             }
         }
 
-        fn refused(error: DeserializationError) -> Refused {
+        pub fn refused(error: DeserializationError) -> Refused {
             let (number, carried) = match error {
                 DeserializationError::BitReaderError { err } => match err {
                     BitReaderError::TooLongForType { max, asked } => {
@@ -171,6 +171,11 @@ pub mod rust {
     impl Asked {
         pub fn new(table: &Table) -> Asked {
             Asked(leaked(table))
+        }
+
+        /// The table as the Rust has it.
+        pub fn descriptor(&self) -> &'static PgnDescriptor {
+            self.0
         }
 
         pub fn read(&self, payload: &[u8], room: u64) -> Told {

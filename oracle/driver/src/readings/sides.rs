@@ -73,20 +73,48 @@ pub struct Answers<'a> {
     /// The Rust's answer, if it can be asked, and what of it is not compared.
     pub rust: Option<Told>,
     pub excused: Excused,
-    ours: Option<Ours>,
+    ours: Option<Ours<'a>>,
     model_standin: Option<bool>,
     model_rust: Option<bool>,
 }
 
-/// The program's answer. A text that is not of the form is no answer.
-struct Ours {
-    text: String,
+/// What a side under test gave: the text of a program, or what a call of the library left.
+pub trait Given {
+    /// Whether it is this answer, in every byte.
+    fn is(&self, model: &Answer) -> bool;
+    /// The answer that it says, if it is of the form. Where it is the model's it may be none: what the
+    /// model is held against, it is held against too.
+    fn answer(&self, is_the_models: bool) -> Option<Answer>;
+    fn text(&self) -> String;
+}
+
+impl Given for String {
+    fn is(&self, model: &Answer) -> bool {
+        *self == model.text()
+    }
+
+    fn answer(&self, is_the_models: bool) -> Option<Answer> {
+        if is_the_models {
+            None
+        } else {
+            Answer::parsed(self)
+        }
+    }
+
+    fn text(&self) -> String {
+        self.clone()
+    }
+}
+
+/// The answer of the side under test.
+struct Ours<'a> {
+    given: &'a dyn Given,
     is_the_models: bool,
     answer: Option<Answer>,
 }
 
 impl<'a> Answers<'a> {
-    pub fn new(case: &'a Case, asked: &'a Asked, ours: Option<&str>) -> Answers<'a> {
+    pub fn new(case: &'a Case, asked: &'a Asked, ours: Option<&'a dyn Given>) -> Answers<'a> {
         let (model, stopped) = answer::model(&asked.table, case);
         let excused = Excused::new(asked, case, &model, stopped);
         let standin_speaks = excused.whole.is_none();
@@ -96,7 +124,7 @@ impl<'a> Answers<'a> {
             standin: standin_speaks.then(|| asked.standin(case)).flatten(),
             rust: asked.rust(case),
             excused,
-            ours: ours.map(|text| Ours::new(text, &model)),
+            ours: ours.map(|given| Ours::new(given, &model)),
             model,
             model_standin: None,
             model_rust: None,
@@ -121,25 +149,21 @@ impl<'a> Answers<'a> {
     }
 }
 
-impl Ours {
-    fn new(text: &str, model: &Answer) -> Ours {
-        let is_the_models = text == model.text();
+impl Ours<'_> {
+    fn new<'a>(given: &'a dyn Given, model: &Answer) -> Ours<'a> {
+        let is_the_models = given.is(model);
         Ours {
-            text: text.to_string(),
+            given,
             is_the_models,
-            answer: if is_the_models {
-                None
-            } else {
-                Answer::parsed(text)
-            },
+            answer: given.answer(is_the_models),
         }
     }
 
     /// Whether the answer differs from one that the model does, or does not, differ from.
     fn differs(&self, models: Option<bool>, own: impl Fn(&Answer) -> Option<bool>) -> Option<bool> {
         match &self.answer {
-            _ if self.is_the_models => models,
             Some(answer) => own(answer),
+            None if self.is_the_models => models,
             None => models.map(|_| true),
         }
     }
@@ -197,7 +221,7 @@ impl Pair {
     /// Both answers as they are printed, the side's first.
     pub fn texts(self, answers: &Answers) -> [String; 2] {
         let side = match &answers.ours {
-            Some(ours) if self.is_ours() => ours.text.clone(),
+            Some(ours) if self.is_ours() => ours.given.text(),
             _ => answers.model.text(),
         };
         let against = match self {

@@ -1,8 +1,11 @@
 //! One side held against another over one set of cases: what was met, and the smallest case that differs.
 use super::case::Case;
 use super::program::Program;
-use super::sides::{Answers, Asked, Pair};
+use super::sides::{Answers, Asked, Given, Pair};
 use super::smallest::{is_smaller, shrink};
+
+/// Asks the side under test; no answers if it cannot be asked.
+pub type Ask<'a> = &'a dyn Fn(&[Case]) -> Vec<Box<dyn Given>>;
 
 /// One more than the largest outcome that is counted.
 const NUMBERS: usize = 10;
@@ -45,13 +48,13 @@ impl Test {
         }
     }
 
-    pub fn outcome(&self, program: Option<&Program>) -> Result<String, String> {
+    pub fn outcome(&self, ask: Ask) -> Result<String, String> {
         let cases: usize = self.met.iter().sum();
         if let Some(case) = &self.smallest {
             return Err(format!(
                 "{} of {cases} cases differ, such as\n  {}",
                 self.differing,
-                shown(self.pair, case, program)
+                shown(self.pair, case, ask)
             ));
         }
         if let Some(number) = self.wanted.iter().find(|&&n| self.met[n as usize] == 0) {
@@ -66,14 +69,14 @@ impl Test {
 }
 
 /// A case made as small as it gets while the two still differ, and both answers.
-fn shown(pair: Pair, case: &Case, program: Option<&Program>) -> String {
-    let ours = |cases: &[Case]| match program {
-        Some(program) if pair.is_ours() => answers_of(program, cases.iter()).unwrap_or_default(),
-        _ => Vec::new(),
+fn shown(pair: Pair, case: &Case, ask: Ask) -> String {
+    let ours = |cases: &[Case]| match pair.is_ours() {
+        true => ask(cases),
+        false => Vec::new(),
     };
-    let differs = |case: &Case, ours: Option<&String>| {
+    let differs = |case: &Case, ours: Option<&Box<dyn Given>>| {
         let asked = Asked::new(&case.words);
-        let answers = Answers::new(case, &asked, ours.map(String::as_str));
+        let answers = Answers::new(case, &asked, ours.map(Box::as_ref));
         pair.differs(&answers) == Some(true)
     };
     let case = shrink(case, &mut |cases| {
@@ -82,7 +85,7 @@ fn shown(pair: Pair, case: &Case, program: Option<&Program>) -> String {
     });
     let ours = ours(std::slice::from_ref(&case));
     let asked = Asked::new(&case.words);
-    let answers = Answers::new(&case, &asked, ours.first().map(String::as_str));
+    let answers = Answers::new(&case, &asked, ours.first().map(Box::as_ref));
     let [side, against] = pair.texts(&answers);
     let indented = |text: String| text.trim_end().replace('\n', "\n    ");
     format!(
@@ -91,6 +94,16 @@ fn shown(pair: Pair, case: &Case, program: Option<&Program>) -> String {
         indented(side),
         indented(against)
     )
+}
+
+/// Asks the program, which answers nothing once it goes wrong.
+pub fn ask_program(program: Option<&Program>, cases: &[Case]) -> Vec<Box<dyn Given>> {
+    let answers = program.map(|program| answers_of(program, cases.iter()));
+    let texts = answers.and_then(Result::ok).unwrap_or_default();
+    let boxed = texts
+        .into_iter()
+        .map(|text| Box::new(text) as Box<dyn Given>);
+    boxed.collect()
 }
 
 /// The program's answers to cases.

@@ -142,7 +142,7 @@ impl Told {
 }
 
 impl Refused {
-    fn text(&self) -> String {
+    pub fn text(&self) -> String {
         let mut text = self.number.to_string();
         if (1..=4).contains(&self.number) {
             text += &format!(" {}", or(self.field, "?"));
