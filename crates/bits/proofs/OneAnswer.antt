@@ -2,6 +2,7 @@
 -- contract of each public call as the source states it, `Post`. Assumes nothing.
 use denote.Ref.{now}
 use Rattle.one_answer.proofs.Fixes.{Fixes, fixed}
+use Rattle.bits.proofs.limits.room_for.Reads as room-for
 use Rattle.bits.proofs.Cursor.new.Reads as new
 use Rattle.bits.proofs.Cursor.seek.Reads as seek
 use Rattle.bits.proofs.Cursor.bit_cursor.Reads as bit-cursor
@@ -106,3 +107,6 @@ same-write-slice = fixed (λ κs a x s p. p .1)
 
 one-bytes : Fixes bytes.Post (λ κs x s. now x)
 one-bytes = fixed (λ κs a x s p. p)
+
+one-room-for : Fixes room-for.Post (λ κs x s. x)
+one-room-for = fixed (λ κs a x s p. p)

@@ -15,6 +15,8 @@ mod refusals;
 mod runs;
 mod writing;
 
+pub use crate::limits::room_for;
+
 // A place in a buffer, or a distance, in bits.
 pub struct BitPos(pub usize);
 

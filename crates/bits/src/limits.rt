@@ -44,8 +44,9 @@ pub(crate) fn bits_of(len: usize) -> usize
     }
 }
 
-// A call of n bits, at most max, at bit `at` of a buffer of len bytes.
-pub(crate) fn room_for(len: usize, at: usize, n: u32, max: u32) -> Room
+// A call of n bits, at most max, at bit `at` of a buffer of len bytes. For those that ask before they
+// write.
+pub fn room_for(len: usize, at: usize, n: u32, max: u32) -> Room
     ensures { λ r. ⌜ r ≡ roomOf len at n max ⌝ }
 {
     if BUFFER_MAX < len {

@@ -3,6 +3,7 @@
 use Rattle.one_answer.proofs.Fixes.{Fixes, fixed}
 use Rattle.fields.proofs.shapes.is_number.Reads as is-number
 use Rattle.fields.proofs.shapes.is_gap.Reads as is-gap
+use Rattle.fields.proofs.shapes.shape_of.Reads as shape-of
 use Rattle.fields.proofs.availability.field_availability.Reads as field-availability
 use Rattle.fields.proofs.read.read_field_raw_and_value.Reads as read-field-raw-and-value
 use Rattle.fields.proofs.DecodeRefusal.number.Reads as number
@@ -29,3 +30,6 @@ one-is-number = fixed (λ κs a x s p. p)
 
 one-is-gap : Fixes is-gap.Post (λ κs x s. x)
 one-is-gap = fixed (λ κs a x s p. p)
+
+one-shape-of : Fixes shape-of.Post (λ κs x s. x)
+one-shape-of = fixed (λ κs a x s p. p)

@@ -21,6 +21,7 @@ pub use crate::availability::field_availability;
 pub use crate::read::read_field_raw_and_value;
 pub use crate::shapes::is_gap;
 pub use crate::shapes::is_number;
+pub use crate::shapes::shape_of;
 
 // The refusals of a decode. `number` gives document 01's number, `carried` what it carries.
 pub enum DecodeRefusal {

@@ -5,7 +5,8 @@ use crate::Shape;
 use descriptor::FieldDescriptor;
 use descriptor::FieldKind;
 
-pub(crate) fn shape_of(f: FieldDescriptor) -> Shape
+// What a field is on the wire.
+pub fn shape_of(f: FieldDescriptor) -> Shape
     ensures { λ r. ⌜ r ≡ shapeOf f ⌝ }
 {
     let kind = f.kind;

@@ -21,6 +21,7 @@ use Rattle.walking.specs.Walk.{One, hit, miss, placeOf}
 use Rattle.walking.specs.Turns.{Turn, moved, met, ended, broke, either, seen, turnBy, turnWithin, turn}
 use Rattle.fields.specs.declared.DecodeRefusal.{DecodeRefusal}
 use Rattle.fields.specs.Payload.{Payload}
+use Rattle.fields.specs.declared.Raw.the-variants.{Absent}
 use Rattle.reading.specs.declared.Span.{Span}
 use Rattle.reading.specs.declared.Reading.{Reading}
 use Rattle.reading.specs.declared.Progress.{Progress}
@@ -28,12 +29,13 @@ use Rattle.reading.specs.declared.Walk.{Walk}
 use Rattle.reading.specs.declared.Next.{Next}
 use Rattle.fields.specs.Shapes.{shapeOf}
 use Rattle.reading.specs.Groups.{tooMany}
-use Rattle.reading.specs.Decode.{oneOf, countOf, readingOf, readings}
+use Rattle.reading.specs.Decode.{oneOf, countOf, readingOf, readings, progressAt}
 use Rattle.reading.specs.Steps.{walkAt, nextTo, metBy, metOf, shown, turnOf, nextOf, goesOn, handed}
 use Rattle.reading.proofs.Looped.{Going, heft, Onward, turned, met-on, one-hands}
+use Rattle.records.specs.declared.Stretch.{Stretch}
 use Rattle.records.specs.Layout.{records}
 use Rattle.records.specs.Puts.{puts}
-use Rattle.records.specs.Stretches.{stored, Hits, none, more, Led, here, then, Leads, LeadsIn, Insides, Plains, Ran}
+use Rattle.records.specs.Stretches.{stored, Hits, none, more, Led, here, then, Leads, LeadsIn, Insides, Plains, Ran, stretchAt, Runs}
 use Rattle.records.proofs.Quickly.{stored-then}
 
 either-yes : {W S F : Type 0} (b : Bool) (x y : Turn W S F) → b ≡ true → either b x y ≡ x
@@ -178,14 +180,14 @@ module _ (t : Table) (p : Payload) (room : ℕ) where
       → Leads t p room (walkAt (Field i) s) out (walkAt (Field k) z) out′
   leads-plain i l s out k z out′ h r = record { readings = r .readings; led = led-plain i l s (h .below) (h .all) (r .high) (r .hits); made = r .made; puts = r .puts }
 
-  pub leads-within : (k e j : ℕ) (s : Progress) (out : List ℕ) (g : RepeatingFieldSet) (m : ℕ) (z : Progress) (out′ : List ℕ) → g ≡ t .set k
-      → Ran t p room (At e) (g .start + j) (g .start + g .size) s out m z out′ → LeadsIn t p room k e j s out (m - g .start) z out′
-  leads-within k e j s out g m z out′ h =
-      subst (λ (x : RepeatingFieldSet). Ran t p room (At e) (x .start + j) (x .start + x .size) s out m z out′ → LeadsIn t p room k e j s out (m - x .start) z out′) (sym h)
-      (λ r. record { all = λ n l. record { readings = r .readings; led = led-within k n e j s l (r .high) (r .hits); made = r .made; puts = r .puts } })
+  pub leads-within : (k e j at made : ℕ) (out : List ℕ) (g : RepeatingFieldSet) (r : Stretch) (out′ : List ℕ) → g ≡ t .set k
+      → Runs t p room (At e) (g .start + j) (g .start + g .size) at made out r out′ → LeadsIn t p room k e j at made out (stretchAt (r .field - g .start) (r .at) (r .made) Absent) out′
+  leads-within k e j at made out g r out′ h =
+      subst (λ (x : RepeatingFieldSet). Runs t p room (At e) (x .start + j) (x .start + x .size) at made out r out′ → LeadsIn t p room k e j at made out (stretchAt (r .field - x .start) (r .at) (r .made) Absent) out′) (sym h)
+      (λ y. record { all = λ n cs l. let q = y .all cs in record { readings = q .readings; led = led-within k n e j (progressAt at made cs) l (q .high) (q .hits); made = q .made; puts = q .puts } })
 
-  pub leads-still : (k e j : ℕ) (s : Progress) (out : List ℕ) → LeadsIn t p room k e j s out j s out
-  leads-still k e j s out = record { all = λ n l. leads-none (walkAt (Within k n e j) s) out (walkAt (Within k n e j) s) here refl }
+  pub leads-still : (k e j at made : ℕ) (out : List ℕ) → LeadsIn t p room k e j at made out (stretchAt j at made Absent) out
+  leads-still k e j at made out = record { all = λ n cs l. leads-none (walkAt (Within k n e j) (progressAt at made cs)) out (walkAt (Within k n e j) (progressAt at made cs)) here refl }
 
   pub leads-next : (k n e j : ℕ) (s : Progress) (out : List ℕ) → e < n → t .set k .size ≤ j → Leads t p room (walkAt (Within k n e j) s) out (walkAt (Within k n (e + 1) 0) s) out
   leads-next k n e j s out l m =

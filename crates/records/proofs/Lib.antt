@@ -2,6 +2,7 @@ pub mod Putting
 pub mod Worth
 pub mod Placed
 pub mod Quickly
+pub mod Noting
 pub mod Leading
 pub mod Seated
 pub mod Storing

@@ -1,7 +1,7 @@
 -- Stretches of a walk: what the functions that read numbers quickly say of each other. It is no part of document 01: that the quick way comes to
 -- the walk of reading is proofs/Quickly.antt.
 use mathlib.Core.Path.{_≡_}
-use Prim.Native.Nat.{ℕ, _+_, _*_, _≤_, _<_}
+use Prim.Native.Nat.{ℕ, _+_, _-_, _*_, _≤_, _<_}
 use mathlib.Core.Bool.{Bool, true, false}
 use mathlib.Core.List.{List, [], _∷_, _++_}
 use lib.Dec.{ltb}
@@ -15,6 +15,7 @@ use Rattle.walking.specs.declared.Place.the-variants.{Starts, Inside, Plain}
 use Rattle.walking.specs.declared.Spot.the-variants.{Within}
 use Rattle.walking.specs.Walk.{hit, placeOf}
 use Rattle.fields.specs.Payload.{Payload}
+use Rattle.fields.specs.declared.Raw.{Raw}
 use Rattle.fields.specs.declared.Raw.the-variants as raw
 use Rattle.reading.specs.declared.Span.{Span}
 use Rattle.reading.specs.declared.Reading.{Reading}
@@ -53,6 +54,16 @@ pub record Clear (t : Table) (k i end r : ℕ) : Type 0 where
 pub record Plains (t : Table) (i r : ℕ) : Type 0 where
   pub below : r ≤ t .count
   pub all : (j : ℕ) → i ≤ j → j < r → placeOf t j ≡ Plain
+
+-- none of the fields from i up to r, which is no further than `end`, is field c, but for the last of them
+pub record UpTo (c i end r : ℕ) : Type 0 where
+  pub some : i < r
+  pub below : r ≤ end
+  pub all : (j : ℕ) → i ≤ j → j + 1 < r → c ≡ j → ⊥
+
+-- the fields from i up to r count nothing, whatever is read of them, but for the last of them
+pub record Quiet (t : Table) (e : Element) (i r : ℕ) : Type 0 where
+  pub all : (j : ℕ) → i ≤ j → j + 1 < r → (x : Raw) (cs : List ℕ) → notedBy t e j x cs ≡ cs
 
 -- ## What a buffer has room for, and where records stand in it
 
@@ -99,8 +110,12 @@ pub record Ran (t : Table) (p : Payload) (room : ℕ) (e : Element) (from end : 
   pub low : from ≤ field
   pub high : field ≤ end
 
-abbrev pub stretchAt : ℕ → ℕ → ℕ → List ℕ → Stretch
-stretchAt field at made cs = record { field = field; progress = progressAt at made cs }
+abbrev pub stretchAt : ℕ → ℕ → ℕ → Raw → Stretch
+stretchAt field at made x = record { field = field; at = at; made = made; last = x }
+
+-- the same whatever counters there are, with the last field before the end still to be noted
+pub record Runs (t : Table) (p : Payload) (room : ℕ) (e : Element) (from end at made : ℕ) (out : List ℕ) (r : Stretch) (out′ : List ℕ) : Type 0 where
+  pub all : (cs : List ℕ) → Ran t p room e from end (progressAt at made cs) out (r .field) (progressAt (r .at) (r .made) (notedBy t e (end - 1) (r .last) cs)) out′
 
 -- ## Turns one after another
 
@@ -117,9 +132,10 @@ pub record Leads (t : Table) (p : Payload) (room : ℕ) (w : Walk) (out : List �
   pub made : z .progress .made ≡ w .progress .made + length readings
   pub puts : out′ ≡ stored out (w .progress .made) readings
 
--- the same within element e of set k, from offset j on to another, however many elements the set has
-pub record LeadsIn (t : Table) (p : Payload) (room k e j : ℕ) (s : Progress) (out : List ℕ) (field : ℕ) (z : Progress) (out′ : List ℕ) : Type 0 where
-  pub all : (n : ℕ) → e < n → Leads t p room (walkAt (Within k n e j) s) out (walkAt (Within k n e field) z) out′
+-- the same within element e of set k, from offset j on to another, however many elements the set has and whatever counters there are
+pub record LeadsIn (t : Table) (p : Payload) (room k e j at made : ℕ) (out : List ℕ) (r : Stretch) (out′ : List ℕ) : Type 0 where
+  pub all : (n : ℕ) (cs : List ℕ) → e < n
+      → Leads t p room (walkAt (Within k n e j) (progressAt at made cs)) out (walkAt (Within k n e (r .field)) (progressAt (r .at) (r .made) cs)) out′
 
 -- ## The count
 

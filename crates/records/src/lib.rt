@@ -4,8 +4,8 @@
 // buffer at exit is what specs/Layout.antt lays out: a count, a record of 64 bytes for each reading,
 // little-endian, and every later byte as it was. Refusals 7 and 8 leave it as it was. The way there is
 // a quick one for numbers, proved to come to the same.
+use fields::Raw;
 use reading::Decoded;
-use reading::Progress;
 
 mod into;
 mod layout;
@@ -36,8 +36,11 @@ pub(crate) enum Quick {
     Passed,
 }
 
-// Where a stretch of fields ended.
+// Where a stretch of fields ended: the field after it, the bit, the readings made, and the raw that its
+// last field still has to be noted with.
 pub(crate) struct Stretch {
     field: usize,
-    progress: Progress,
+    at: usize,
+    made: usize,
+    last: Raw,
 }

@@ -2,12 +2,12 @@
 // walk of `reading`.
 ghost use mathlib.Core.Path.{_≡_};
 ghost use mathlib.Core.Bool.{true};
-ghost use Prim.Native.Nat.{_≤_};
+ghost use Prim.Native.Nat.{_<_};
 ghost use lib.ListN.{length};
 ghost use Rattle.tables.specs.Table.{tableOf};
 ghost use Rattle.fields.specs.Payload.{payloadOf};
 ghost use Rattle.fields.specs.Shapes.{shapeOf, isNumber, isGap};
-ghost use Rattle.records.specs.Stretches.{Roomy, quickSays, Ran, stretchAt};
+ghost use Rattle.records.specs.Stretches.{Roomy, quickSays, Quiet, Runs, stretchAt};
 use crate::Quick;
 use crate::Stretch;
 use crate::readings;
@@ -17,7 +17,6 @@ use bits::Moved;
 use bits::ReadU64;
 use descriptor::FieldDescriptor;
 use fields::Raw;
-use reading::Progress;
 use walking::Element;
 
 // Field i, a number at bit `at`.
@@ -103,7 +102,8 @@ fn quick(
     Quick::Passed
 }
 
-// The fields from `from` up to `end`, as far as they are quick.
+// The fields from `from` up to `end`, as far as they are quick. Only the last of them may be a counter:
+// it is left to the caller to note it.
 pub(crate) fn run(
     words: &[u64],
     s: &[u8],
@@ -111,45 +111,45 @@ pub(crate) fn run(
     from: usize,
     end: usize,
     e: Element,
-    p: Progress,
+    bit: usize,
+    count: usize,
     out: &mut [u8],
 ) -> Stretch
-    requires { ⌜ (from ≤ end) × Roomy room (now out) ⌝ }
-    ensures { λ r. ⌜ Ran (tableOf (now (words .entry))) (payloadOf (now (s .entry))) room e from end p (now (out .entry)) (r .field) (r .progress) (now (out .exit)) ⌝ }
+    requires { ⌜ (from < end) × (Quiet (tableOf (now words)) e from end × Roomy room (now out)) ⌝ }
+    ensures { λ r. ⌜ Runs (tableOf (now (words .entry))) (payloadOf (now (s .entry))) room e from end bit count (now (out .entry)) r (now (out .exit)) ⌝ }
 {
-    let bit = p.at;
     let mut i = from;
-    let mut at = bit.0;
-    let mut made = p.made;
-    let mut counters = p.counters;
+    let mut at = bit;
+    let mut made = count;
+    let mut last = Raw::Absent;
     while i < end {
         match quick(words, s, room, i, e, at, made, out) {
             Quick::Took { bits, raw } => {
-                let noted = reading::noted_by(words, e, i, Raw::Number(raw), counters);
-                counters = noted;
+                last = Raw::Number(raw);
                 i += 1;
                 at += bits;
                 made += 1;
             }
             Quick::Skipped { bits } => {
+                last = Raw::Absent;
                 i += 1;
                 at += bits;
             }
             Quick::Passed => {
-                return stretch(i, at, made, counters);
+                return stretch(i, at, made, Raw::Absent);
             }
         }
     }
-    stretch(i, at, made, counters)
+    stretch(i, at, made, last)
 }
 
-fn stretch(field: usize, at: usize, made: usize, counters: [u64; 4]) -> Stretch
-    ensures { λ r. ⌜ r ≡ stretchAt field at made counters ⌝ }
+pub(crate) fn stretch(field: usize, at: usize, made: usize, last: Raw) -> Stretch
+    ensures { λ r. ⌜ r ≡ stretchAt field at made last ⌝ }
 {
-    let progress = Progress {
-        at: BitPos(at),
+    Stretch {
+        field,
+        at,
         made,
-        counters,
-    };
-    Stretch { field, progress }
+        last,
+    }
 }

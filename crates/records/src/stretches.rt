@@ -1,9 +1,10 @@
 // Which fields can be gone through in one stretch.
 ghost use mathlib.Core.Path.{_≡_};
-ghost use Prim.Native.Nat.{min};
+ghost use Prim.Native.Nat.{min, _≤_, _<_};
 ghost use Rattle.tables.specs.Table.{tableOf};
+ghost use Rattle.walking.specs.declared.Element.the-variants as element;
 ghost use Rattle.walking.specs.Walk.{placeOf};
-ghost use Rattle.records.specs.Stretches.{Insides, Plains, Clear, isInside};
+ghost use Rattle.records.specs.Stretches.{Insides, Plains, Clear, UpTo, Quiet, isInside};
 use walking::Place;
 
 fn is_inside(words: &[u64], i: usize) -> bool
@@ -58,6 +59,35 @@ fn clear_of(words: &[u64], k: usize, i: usize, end: usize) -> usize
     }
     if i < start + size {
         return least(i, end);
+    }
+    end
+}
+
+// A field up to which, from field i on and no further than `end`, none but the last is a counter.
+pub(crate) fn quiet_until(words: &[u64], i: usize, end: usize) -> usize
+    requires { ⌜ i < end ⌝ }
+    ensures { λ r. ⌜ (i < r) × ((r ≤ end) × Quiet (tableOf (now (words .entry))) element.Outside i r) ⌝ }
+{
+    let m = tables::set_count(words);
+    let mut to = end;
+    let mut k = 0;
+    while k < m {
+        let set = tables::set_at(words, k);
+        to = up_to(set.counter, i, to);
+        k += 1;
+    }
+    to
+}
+
+// The same, of counter c alone.
+fn up_to(c: usize, i: usize, end: usize) -> usize
+    requires { ⌜ i < end ⌝ }
+    ensures { λ r. ⌜ UpTo c i end r ⌝ }
+{
+    if i <= c {
+        if c < end {
+            return c + 1;
+        }
     }
     end
 }

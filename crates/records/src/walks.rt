@@ -1,17 +1,20 @@
 // The walk through a payload with its readings stored: quickly as far as it goes, else turn by turn.
 ghost use mathlib.Core.Path.{_≡_};
+ghost use Prim.Native.Nat.{_≤_};
 ghost use Rattle.tables.specs.Table.{tableOf};
 ghost use Rattle.tables.specs.Check.{checkOf};
 ghost use Rattle.tables.specs.declared.Checked.the-variants as checked;
 ghost use Rattle.walking.specs.declared.Spot.the-variants as spot;
 ghost use Rattle.fields.specs.Payload.{payloadOf};
-ghost use Rattle.reading.specs.Decode.{walkOf, spansOf, readings as readingsIn, endOf};
+ghost use Rattle.reading.specs.Decode.{walkOf, spansOf, readings as readingsIn, endOf, progressAt};
 ghost use Rattle.reading.specs.Steps.{walkAt, nextOf, handed};
-ghost use Rattle.records.specs.Stretches.{Roomy, stored, Leads, LeadsIn};
+ghost use Rattle.records.specs.Stretches.{Plains, Roomy, stored, Leads, LeadsIn};
 use crate::Stretch;
 use crate::readings;
 use crate::runs;
 use crate::stretches;
+use bits::BitPos;
+use fields::Raw;
 use reading::Answer;
 use reading::Decoded;
 use reading::Next;
@@ -28,11 +31,12 @@ fn element(
     k: usize,
     e: usize,
     j: usize,
-    p: Progress,
+    at: usize,
+    made: usize,
     out: &mut [u8],
 ) -> Stretch
     requires { ⌜ Roomy room (now out) ⌝ }
-    ensures { λ r. ⌜ LeadsIn (tableOf (now (words .entry))) (payloadOf (now (s .entry))) room k e j p (now (out .entry)) (r .field) (r .progress) (now (out .exit)) ⌝ }
+    ensures { λ r. ⌜ LeadsIn (tableOf (now (words .entry))) (payloadOf (now (s .entry))) room k e j at made (now (out .entry)) r (now (out .exit)) ⌝ }
 {
     let set = tables::set_at(words, k);
     let start = set.start;
@@ -45,20 +49,14 @@ fn element(
             start + j,
             start + size,
             Element::At(e),
-            p,
+            at,
+            made,
             out,
         );
         let field = ran.field;
-        let progress = ran.progress;
-        return Stretch {
-            field: field - start,
-            progress,
-        };
+        return runs::stretch(field - start, ran.at, ran.made, Raw::Absent);
     }
-    Stretch {
-        field: j,
-        progress: p,
-    }
+    runs::stretch(j, at, made, Raw::Absent)
 }
 
 // The rest of set k, from element e and offset j on, as far as it is quick.
@@ -81,25 +79,88 @@ fn elements(
     let size = set.size;
     let mut e = first;
     let mut j = offset;
-    let mut progress = p;
+    let bit = p.at;
+    let mut at = bit.0;
+    let mut made = p.made;
+    let counters = p.counters;
     while e < n {
-        let ran = element(words, s, room, k, e, j, progress, out);
+        let ran = element(words, s, room, k, e, j, at, made, out);
         let field = ran.field;
-        progress = ran.progress;
+        at = ran.at;
+        made = ran.made;
         if field < size {
-            let spot = Spot::Within {
-                set: k,
-                count: n,
-                element: e,
-                offset: field,
-            };
-            return Walk { spot, progress };
+            return within_at(k, n, e, field, at, made, counters);
         }
         e += 1;
         j = 0;
     }
-    let spot = Spot::Field(start + 1);
+    let past = start + 1;
+    walk_at(Spot::Field(past), at, made, counters)
+}
+
+fn within_at(
+    k: usize,
+    n: usize,
+    e: usize,
+    j: usize,
+    at: usize,
+    made: usize,
+    counters: [u64; 4],
+) -> Walk
+    ensures { λ r. ⌜ r ≡ walkAt (spot.Within k n e j) (progressAt at made counters) ⌝ }
+{
+    let spot = Spot::Within {
+        set: k,
+        count: n,
+        element: e,
+        offset: j,
+    };
+    walk_at(spot, at, made, counters)
+}
+
+fn walk_at(spot: Spot, at: usize, made: usize, counters: [u64; 4]) -> Walk
+    ensures { λ r. ⌜ r ≡ walkAt spot (progressAt at made counters) ⌝ }
+{
+    let progress = Progress {
+        at: BitPos(at),
+        made,
+        counters,
+    };
     Walk { spot, progress }
+}
+
+// From field `from` up to `end`, all in no set, as far as it is quick.
+fn plain(
+    words: &[u64],
+    s: &[u8],
+    room: usize,
+    from: usize,
+    end: usize,
+    p: Progress,
+    out: &mut [u8],
+) -> Walk
+    requires { ⌜ (from ≤ end) × (Plains (tableOf (now words)) from end × Roomy room (now out)) ⌝ }
+    ensures { λ r. ⌜ Leads (tableOf (now (words .entry))) (payloadOf (now (s .entry))) room (walkAt (spot.Field from) p) (now (out .entry)) r (now (out .exit)) ⌝ }
+{
+    let bit = p.at;
+    let mut i = from;
+    let mut at = bit.0;
+    let mut made = p.made;
+    let mut counters = p.counters;
+    while i < end {
+        let to = stretches::quiet_until(words, i, end);
+        let ran = runs::run(words, s, room, i, to, Element::Outside, at, made, out);
+        i = ran.field;
+        at = ran.at;
+        made = ran.made;
+        let last = ran.last;
+        let noted = reading::noted_by(words, Element::Outside, to - 1, last, counters);
+        counters = noted;
+        if i < to {
+            return walk_at(Spot::Field(i), at, made, counters);
+        }
+    }
+    walk_at(Spot::Field(i), at, made, counters)
 }
 
 // From field i on, as far as it is quick.
@@ -110,11 +171,7 @@ fn along(words: &[u64], s: &[u8], room: usize, i: usize, p: Progress, out: &mut 
     let from = stretches::past_inside(words, i);
     let end = stretches::plain_until(words, from);
     if from < end {
-        let ran = runs::run(words, s, room, from, end, Element::Outside, p, out);
-        let field = ran.field;
-        let progress = ran.progress;
-        let spot = Spot::Field(field);
-        return Walk { spot, progress };
+        return plain(words, s, room, from, end, p, out);
     }
     let spot = Spot::Field(from);
     Walk { spot, progress: p }

@@ -39,11 +39,14 @@ pub fn print_answers() {
     }
 }
 
-/// Answers lines of standard input. True if all could be read and printed.
+/// Answers lines of standard input, whatever their bytes. True if all could be read and printed. A line ends
+/// at its newline alone: a carriage return before it is no digit.
 pub fn print_by_model() -> bool {
     let mut out = BufWriter::new(stdout().lock());
-    let mut answer = |line: io::Result<String>| out.write_all(printed(&line?).as_bytes());
-    let answered = stdin().lock().lines().try_for_each(&mut answer);
+    let mut answer = |line: io::Result<Vec<u8>>| {
+        out.write_all(printed(&String::from_utf8_lossy(&line?)).as_bytes())
+    };
+    let answered = stdin().lock().split(b'\n').try_for_each(&mut answer);
     match answered.and_then(|()| out.flush()) {
         Ok(()) => true,
         Err(error) => {

@@ -4,7 +4,7 @@ use Rattle.tables.specs.Table.{tableOf}
 use Rattle.walking.specs.declared.Spot.the-variants as spot
 use Rattle.fields.specs.Payload.{payloadOf}
 use Rattle.reading.specs.Steps.{walkAt}
-use Rattle.records.proofs.Leading.{leads-then, leads-inside, leads-plain}
+use Rattle.records.proofs.Leading.{leads-then, leads-inside}
 use borrow.Author.Needs.{needs}
 use Rattle.records.proofs.walks.along.Statement.{statement}
 use Rattle.records.proofs.walks.along.Tie as tie
@@ -15,23 +15,23 @@ past-inside-requires c κs = search needs
 plain-until-requires : tie.Need-plain-until-requires
 plain-until-requires c κs = search needs
 
-run-requires : tie.Need-run-requires
-run-requires c κs = search needs
+plain-requires : tie.Need-plain-requires
+plain-requires c κs = search needs
 
 same-length : tie.Need-same-length
 same-length c = search needs
 
 returns : tie.Need-returns
 returns c =
-    let q = c .before .before .before in
-    let u = c .before .before .before .before .before .before in
-    let a = c .before .before .before .before .before .before .before .before .before .before .before .args in
+    let q = c .before .before in
+    let u = q .before .before .before in
+    let a = u .before .before .before .before .before .args in
     let t = tableOf (now (a .words)) in
     let p = payloadOf (now (a .s)) in
     let from = u .before .past-inside .result in
-    leads-then t p (a .room) (walkAt (spot.Field (a .i)) (a .p)) (now (a .out)) (walkAt (spot.Field from) (a .p)) (now (a .out)) (walkAt (spot.Field (q .run .result .field)) (q .run .result .progress)) _
+    leads-then t p (a .room) (walkAt (spot.Field (a .i)) (a .p)) (now (a .out)) (walkAt (spot.Field from) (a .p)) (now (a .out)) (q .plain .result) _
     (leads-inside t p (a .room) (a .i) from (a .p) (now (a .out)) (u .before .past-inside .ensures))
-    (leads-plain t p (a .room) from (u .plain-until .result) (a .p) (now (a .out)) _ _ _ (u .plain-until .ensures) (q .run .ensures))
+    (q .plain .ensures)
 
 returns-2 : tie.Need-returns-2
 returns-2 c =
@@ -41,4 +41,10 @@ returns-2 c =
 pub along-spec : {M : Type 1} → statement M
 along-spec =
     tie.close
-    (tie.spec past-inside-requires plain-until-requires run-requires same-length returns returns-2)
+    (tie.spec
+    past-inside-requires
+    plain-until-requires
+    plain-requires
+    same-length
+    returns
+    returns-2)
