@@ -1,0 +1,3 @@
+pub mod Pours
+pub mod Puts
+pub mod OneAnswer
