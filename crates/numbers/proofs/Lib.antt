@@ -4,3 +4,4 @@ pub mod Machine
 pub mod Beyond
 pub mod OneAnswer
 pub mod Scaled
+pub mod Fitting

@@ -4,3 +4,4 @@ pub mod Special
 pub mod Quantizing
 pub mod Conversions
 pub mod Words
+pub mod Held

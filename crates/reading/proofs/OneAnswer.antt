@@ -4,6 +4,7 @@ use denote.Ref.{now}
 use Rattle.one_answer.proofs.Fixes.{Fixes, fixed}
 use Rattle.reading.proofs.groups.repeating_group_count.Reads as repeating-group-count
 use Rattle.reading.proofs.groups.noted_by.Reads as noted-by
+use Rattle.reading.proofs.groups.counter_at.Reads as counter-at
 use Rattle.reading.proofs.filling.is_filled.Reads as is-filled
 use Rattle.reading.proofs.turns.start.Reads as start
 use Rattle.reading.proofs.turns.next_field.Reads as next-field
@@ -40,3 +41,6 @@ one-noted-by = fixed (λ κs a x s p. p)
 
 one-is-filled : Fixes is-filled.Post (λ κs x s. x)
 one-is-filled = fixed (λ κs a x s p. p)
+
+one-counter-at : Fixes counter-at.Post (λ κs x s. x)
+one-counter-at = fixed (λ κs a x s p. p)

@@ -51,7 +51,7 @@ pub fn noted_by(words: &[u64], e: Element, i: usize, raw: Raw, cs: [u64; 4]) -> 
 }
 
 // The counter of set k: there are none past the last.
-pub(crate) fn counter_at(cs: [u64; 4], k: usize) -> u64
+pub fn counter_at(cs: [u64; 4], k: usize) -> u64
     ensures { λ r. ⌜ r ≡ getD cs k 0 ⌝ }
 {
     if k < 4 {

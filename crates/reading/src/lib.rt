@@ -27,6 +27,7 @@ pub use crate::decoding::for_each_field;
 pub use crate::filling::is_filled;
 pub use crate::filling::pad_to_min_length;
 pub use crate::filling::prepare;
+pub use crate::groups::counter_at;
 pub use crate::groups::noted_by;
 pub use crate::groups::repeating_group_count;
 pub use crate::turns::next_field;

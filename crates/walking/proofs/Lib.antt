@@ -5,3 +5,5 @@ pub mod Visits
 pub mod Lawful
 pub mod Alike
 pub mod OneAnswer
+pub mod Looked
+pub mod Paired

@@ -4,8 +4,10 @@
 // Promise: specs/Walk.antt says which fields are met and in which order, over any table and any rule
 // for one field; proofs/Machine.antt that the walk by single turns, from spot to spot, meets the same
 // and comes to the same end. The code here takes any words.
+mod looks;
 mod places;
 
+pub use crate::looks::look_at;
 pub use crate::places::place_at;
 
 // Which element of its set a field stands in.
@@ -29,5 +31,23 @@ pub enum Spot {
         count: usize,
         element: usize,
         offset: usize,
+    },
+}
+
+// What a walk does next, from the spot where it stands.
+pub enum Look {
+    // Nothing: it is past the last field.
+    End,
+    // It goes on at another spot.
+    Pass(Spot),
+    // It enters set k, if that has not too many elements.
+    Enter(usize),
+    // It meets a field, and then goes on at `to`. `last` says that the field is the last of the table,
+    // outside a set.
+    Meet {
+        field: usize,
+        element: Element,
+        last: bool,
+        to: Spot,
     },
 }

@@ -50,6 +50,9 @@ module _ (size at lent : ℕ) where
   at-room room.Fits i w f = f refl
   at-room (room.Refused e) i w f = refl
 
+  pub gap-puts : (f : FieldDescriptor) (i : ℕ) → P (gapOf f i size at)
+  gap-puts f i = at-room (roomOf size at (f .width) 64) i _ (λ h. let g = fitting size at (f .width) 64 h in (g .short, g .inside))
+
   or-false : (a b : Bool) → (a || b) ≡ false → (a ≡ false) × (b ≡ false)
   or-false true b h = (h, cc)
   or-false false b h = (refl, h)
@@ -103,7 +106,7 @@ module _ (size at lent : ℕ) where
 
     by-shape : (sh : Shape) (f : FieldDescriptor) (i : ℕ) (v : PgnValue) → P (weighedBy sh f i v lent size at)
     by-shape (shape.Number strict) f i v = number-puts (rawOf f v) i (f .width)
-    by-shape shape.Gap f i v = at-room (roomOf size at (f .width) 64) i _ (λ _. refl)
+    by-shape shape.Gap f i v = gap-puts f i
     by-shape shape.Fixed f i v =
         bytes-puts v i _
         (λ b. unencoded-puts (b .encoding) i _ (text-puts b i (ltb (f .width / 8) (b .len .0)) true 0 (8 * (f .width / 8)) Bare (λ o. record { bytes = f .width / 8; same = refl; fits = ltb-false _ _ o })))

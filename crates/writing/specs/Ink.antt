@@ -49,6 +49,6 @@ pub record Whole (n : ℕ) (lead : Lead) (len : ℕ) : Type 0 where
 
 abbrev pub Puttable : ℕ → ℕ → Weighed → ℕ → Type 0
 Puttable size at (Number n raw) lent = (size ≤ 223) × ((0 < n .0) × ((n .0 ≤ 64) × (at + n .0 ≤ size * 8)))
-Puttable size at (Gap n) lent = size ≡ size
+Puttable size at (Gap n) lent = (size ≤ 65536) × (at + n .0 ≤ size * 8)
 Puttable size at (Text n lead b) lent = (size ≤ 223) × ((at + n .0 ≤ size * 8) × ((b .start .0 + b .len .0 ≤ lent) × Whole (n .0) lead (b .len .0)))
 Puttable size at (Refused e) lent = size ≡ size

@@ -1,1 +1,4 @@
 pub mod Ink
+pub mod Encode
+pub mod Strokes
+pub mod ReadBack

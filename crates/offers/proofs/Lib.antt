@@ -1,0 +1,5 @@
+pub mod Within
+pub mod Narrowed
+pub mod Placed
+pub mod OneAnswer
+pub mod Back

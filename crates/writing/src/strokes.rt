@@ -1,0 +1,264 @@
+// The walk by single turns.
+ghost use mathlib.Core.Path.{_≡_};
+ghost use Prim.Native.Nat.{ℕ, _+_};
+ghost use mathlib.Core.Bool.{false};
+ghost use lib.ListN.{length};
+ghost use Rattle.bits.specs.Calls.{saturated};
+ghost use Rattle.tables.specs.Table.{tableOf};
+ghost use Rattle.walking.specs.Turns.{seen as seenOf};
+ghost use Rattle.walking.specs.Looks.{enterWith};
+ghost use Rattle.writing.specs.Ink.{inked};
+ghost use Rattle.writing.specs.Encode.{Mark, contentOf, penAfter, oneOf, countOf, tooMany};
+ghost use Rattle.writing.specs.Strokes.{strokedTo, sizeOf, Reaches, strokeBy, spotBy, endBy, shown, leftBy, strokedOf, leftOf, startOf};
+use crate::Draft;
+use crate::Pen;
+use crate::Stroke;
+use crate::Stroked;
+use crate::ink::write_field;
+use bits::BitPos;
+use descriptor::FieldDescriptor;
+use fields::Raw;
+use offers::Offer;
+use reading::Span;
+use walking::Element;
+use walking::Look;
+use walking::Spot;
+use weighing::EncodeRefusal;
+use weighing::Weighed;
+
+const MOST: usize = 0xffff_ffff_ffff_ffff;
+
+// A walk before its first field.
+pub fn start() -> Draft
+    ensures { λ r. ⌜ r ≡ startOf ⌝ }
+{
+    let pen = Pen {
+        at: BitPos(0),
+        used: 0,
+        counters: [0; 4],
+    };
+    Draft {
+        spot: Spot::Field(0),
+        pen,
+    }
+}
+
+fn stroked(stroke: Stroke, spot: Spot, pen: Pen) -> Stroked
+    ensures { λ r. ⌜ r ≡ strokedTo stroke spot pen ⌝ }
+{
+    let draft = Draft { spot, pen };
+    Stroked { stroke, draft }
+}
+
+// One more, saturating.
+fn one_more(n: usize) -> usize
+    ensures { λ r. ⌜ r ≡ saturated (n + 1) ⌝ }
+{
+    if n < MOST { n + 1 } else { MOST }
+}
+
+// The bits that what was weighed takes.
+fn size_of(weighed: Weighed) -> BitPos
+    ensures { λ r. ⌜ r ≡ sizeOf weighed ⌝ }
+{
+    match weighed {
+        Weighed::Number { bits, raw: _ } => bits,
+        Weighed::Gap { bits } => bits,
+        Weighed::Text {
+            bits,
+            lead: _,
+            text: _,
+        } => bits,
+        Weighed::Refused(_) => BitPos(0),
+    }
+}
+
+fn stroke_of(weighed: Weighed, v: Span) -> Stroke
+    ensures { λ r. ⌜ r ≡ strokeBy weighed v ⌝ }
+{
+    match weighed {
+        Weighed::Number { bits: _, raw: _ } => Stroke::Wrote(v),
+        Weighed::Gap { bits: _ } => Stroke::Skipped(v),
+        Weighed::Text {
+            bits: _,
+            lead: _,
+            text: _,
+        } => Stroke::Wrote(v),
+        Weighed::Refused(e) => Stroke::Refused(e),
+    }
+}
+
+// Where the walk then stands: a refused one stays `here`.
+fn spot_after(weighed: Weighed, to: Spot, here: Spot) -> Spot
+    ensures { λ r. ⌜ r ≡ spotBy weighed to here ⌝ }
+{
+    match weighed {
+        Weighed::Number { bits: _, raw: _ } => to,
+        Weighed::Gap { bits: _ } => to,
+        Weighed::Text {
+            bits: _,
+            lead: _,
+            text: _,
+        } => to,
+        Weighed::Refused(_) => here,
+    }
+}
+
+// The pen once that is written.
+fn pen_after(words: &[u64], i: usize, e: Element, pen: Pen, weighed: Weighed) -> Pen
+    requires { ⌜ Reaches (pen .at .0) weighed ⌝ }
+    ensures { λ r. ⌜ r ≡ penAfter (tableOf (now (words .entry))) i e pen weighed ⌝ }
+{
+    let at = pen.at.0;
+    let used = pen.used;
+    let cs = pen.counters;
+    match weighed {
+        Weighed::Number { bits, raw } => {
+            let counters = reading::noted_by(words, e, i, Raw::Number(raw), cs);
+            let to = at + bits.0;
+            Pen {
+                at: BitPos(to),
+                used: one_more(used),
+                counters,
+            }
+        }
+        Weighed::Gap { bits } => {
+            let to = at + bits.0;
+            Pen {
+                at: BitPos(to),
+                used,
+                counters: cs,
+            }
+        }
+        Weighed::Text {
+            bits,
+            lead: _,
+            text: _,
+        } => {
+            let to = at + bits.0;
+            Pen {
+                at: BitPos(to),
+                used: one_more(used),
+                counters: cs,
+            }
+        }
+        Weighed::Refused(_) => pen,
+    }
+}
+
+// Field i at a bit: bits that stay ones, or the offer, weighed and put.
+fn put_content(
+    buffer: &mut [u8],
+    lent: &[u8],
+    offer: Offer,
+    f: FieldDescriptor,
+    i: usize,
+    at: BitPos,
+) -> Weighed
+    ensures { λ r. ⌜ (r ≡ contentOf offer f i (length (now (lent .entry))) (length (now (buffer .entry))) (at .0)) × (now (buffer .exit) ≡ inked (now (buffer .entry)) (at .0) (contentOf offer f i (length (now (lent .entry))) (length (now (buffer .entry))) (at .0)) (now (lent .entry))) ⌝ }
+{
+    if fields::is_gap(f) {
+        return weighing::weigh_gap(f, i, buffer.len(), at);
+    }
+    match offer {
+        Offer::Nothing => Weighed::Refused(EncodeRefusal::ValueCount { field: i }),
+        Offer::NoKind => Weighed::Refused(EncodeRefusal::WrongKind { field: i }),
+        Offer::Value(value) => write_field(buffer, at, f, i, value, lent),
+    }
+}
+
+// Field i, in element e; the walk then goes on at `to`. `here` is the spot that it stands at.
+fn meet(
+    words: &[u64],
+    buffer: &mut [u8],
+    lent: &[u8],
+    offer: Offer,
+    i: usize,
+    e: Element,
+    pen: Pen,
+    to: Spot,
+    here: Spot,
+) -> Stroked
+    ensures { λ r. ⌜ (r ≡ shown (tableOf (now (words .entry))) offer here (seenOf to pen (oneOf (tableOf (now (words .entry))) (λ (j : ℕ). offer) (length (now (lent .entry))) (length (now (buffer .entry))) i e false pen))) × (now (buffer .exit) ≡ leftBy (now (lent .entry)) (now (buffer .entry)) (seenOf to pen (oneOf (tableOf (now (words .entry))) (λ (j : ℕ). offer) (length (now (lent .entry))) (length (now (buffer .entry))) i e false pen))) ⌝ }
+{
+    let at = pen.at;
+    let f = tables::field_at(words, i);
+    let content = put_content(buffer, lent, offer, f, i, at);
+    let bits = size_of(content);
+    let v = Span {
+        field: i,
+        element: e,
+        start: at,
+        bits,
+    };
+    let stroke = stroke_of(content, v);
+    let spot = spot_after(content, to, here);
+    let after = pen_after(words, i, e, pen, content);
+    stroked(stroke, spot, after)
+}
+
+// Into set k, if it has not too many elements.
+fn enter(words: &[u64], offer: Offer, k: usize, pen: Pen, here: Spot) -> Stroked
+    ensures { λ r. ⌜ r ≡ shown (tableOf (now (words .entry))) offer here (enterWith (tableOf (now (words .entry))) (oneOf (tableOf (now (words .entry))) (λ (j : ℕ). offer) 0 0) (countOf (tableOf (now (words .entry)))) tooMany k (countOf (tableOf (now (words .entry))) k pen) pen) ⌝ }
+{
+    let cs = pen.counters;
+    let raw = reading::counter_at(cs, k);
+    let set = tables::set_at(words, k);
+    let counter = set.counter;
+    let maximum = set.maximum;
+    let f = tables::field_at(words, counter);
+    let n = numbers::counter_elements(raw, f.width) as usize;
+    if n <= maximum {
+        let to = Spot::Within {
+            set: k,
+            count: n,
+            element: 0,
+            offset: 0,
+        };
+        return stroked(Stroke::Moved, to, pen);
+    }
+    let refusal = EncodeRefusal::RepetitionsExceedCapacity {
+        set: k,
+        count: n,
+        maximum,
+    };
+    stroked(Stroke::Refused(refusal), here, pen)
+}
+
+// At the end: left-over values are 12, with the field count.
+fn end_of(words: &[u64], offer: Offer) -> Stroke
+    ensures { λ r. ⌜ r ≡ endBy (tableOf (now (words .entry))) offer ⌝ }
+{
+    let n = tables::field_count(words);
+    match offer {
+        Offer::Nothing => Stroke::Ended,
+        Offer::NoKind => Stroke::Refused(EncodeRefusal::ValueCount { field: n }),
+        Offer::Value(_) => Stroke::Refused(EncodeRefusal::ValueCount { field: n }),
+    }
+}
+
+// One turn of a walk, with the next value: what it came to, and the buffer with the field that was
+// written. The offer is used if the answer is `Wrote`.
+pub fn write_next(
+    words: &[u64],
+    buffer: &mut [u8],
+    lent: &[u8],
+    draft: Draft,
+    offer: Offer,
+) -> Stroked
+    ensures { λ r. ⌜ (r ≡ strokedOf (tableOf (now (words .entry))) offer (length (now (lent .entry))) (length (now (buffer .entry))) draft) × (now (buffer .exit) ≡ leftOf (tableOf (now (words .entry))) offer (now (lent .entry)) (now (buffer .entry)) draft) ⌝ }
+{
+    let here = draft.spot;
+    let pen = draft.pen;
+    match walking::look_at(words, here) {
+        Look::End => stroked(end_of(words, offer), here, pen),
+        Look::Pass(to) => stroked(Stroke::Moved, to, pen),
+        Look::Enter(k) => enter(words, offer, k, pen, here),
+        Look::Meet {
+            field,
+            element,
+            last: _,
+            to,
+        } => meet(words, buffer, lent, offer, field, element, pen, to, here),
+    }
+}
