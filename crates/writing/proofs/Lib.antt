@@ -16,4 +16,5 @@ pub mod GroupBack
 pub mod WalkBack
 pub mod Fitted
 pub mod ReadsBack
+pub mod CallsBack
 pub mod OneAnswer
