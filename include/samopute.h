@@ -1,5 +1,6 @@
 /*
  * The boundary of Samopute for C99 and C++: GNSS payloads in NMEA 2000 form, in; readings or a numbered refusal, out.
+ * And back: values in, a payload or a numbered refusal out.
  *
  * `rt staticlib samopute_c` makes target/staticlib/libsamopute_c.a for x86-64 Linux. It has no heap and no global state:
  * every buffer is lent by the caller for the time of the call, and threads may call at once on buffers of their own.
@@ -25,27 +26,32 @@ extern "C" {
 
 /* The version that this header describes. samopute_version() answers that of the library. */
 #define SAMOPUTE_VERSION_MAJOR 1
-#define SAMOPUTE_VERSION_MINOR 0
+#define SAMOPUTE_VERSION_MINOR 1
 #define SAMOPUTE_VERSION (SAMOPUTE_VERSION_MAJOR * 65536 + SAMOPUTE_VERSION_MINOR)
 
 /* Sizes, in bytes unless they say otherwise. */
-#define SAMOPUTE_PAYLOAD_MAX 223      /* the longest payload that is decoded */
+#define SAMOPUTE_PAYLOAD_MAX 223      /* the longest payload that is decoded or encoded */
 #define SAMOPUTE_PADDING_LENGTH 223   /* the padding run: of just this length, else refusal 7 */
 #define SAMOPUTE_PREFIX_LENGTH 8      /* the count in front of the records */
 #define SAMOPUTE_RECORD_LENGTH 64     /* a record: one reading */
 #define SAMOPUTE_ROOM_ENOUGH 1785     /* readings: with room for so many there is no refusal 9 */
+#define SAMOPUTE_VALUE_LENGTH 24      /* a record of a value to be encoded */
+#define SAMOPUTE_TEXT_MAX 221         /* the longest text of a StringLz or a StringLau */
 #define SAMOPUTE_BUFFER_MAX 65536     /* the longest buffer of a bit call */
 
 /* The length of a readings buffer with room for so many readings. */
 #define SAMOPUTE_READINGS_LENGTH(room) (SAMOPUTE_PREFIX_LENGTH + SAMOPUTE_RECORD_LENGTH * (size_t)(room))
+
+/* The length of so many values. */
+#define SAMOPUTE_VALUES_LENGTH(count) (SAMOPUTE_VALUE_LENGTH * (size_t)(count))
 
 /* The element of a reading that is in no set: 2^64 - 1. */
 #define SAMOPUTE_NO_ELEMENT UINT64_MAX
 
 /*
  * The refusals, with what each carries. 1 to 3 and 6 are those of the bit calls, 1 to 5, 7 to 9 and 15 those of
- * decode, where 1 to 3 carry the field first. 10 and 11 are those of samopute_raw_of, which carry nothing there.
- * 12 and 13 are of writing and 14 of the programs: no call of this header answers them.
+ * decode, 2, 3, 5, 7, 8, 10 to 13 and 15 those of encode. In decode and encode 1 to 3 carry the field first. 10 and 11
+ * are those of samopute_raw_of too, where they carry nothing. 14 is of the programs: no call of this header answers it.
  */
 enum samopute_status {
     SAMOPUTE_DONE = 0,              /* no refusal */
@@ -58,10 +64,10 @@ enum samopute_status {
     SAMOPUTE_WRONG_LENGTH = 7,      /* payload over 223 bytes, or padding run not of 223: length (payload's first) */
     SAMOPUTE_TABLE_REFUSED = 8,     /* table refused: rule (1 for a to 8 for h), index of field or set (0 for a) */
     SAMOPUTE_NO_ROOM = 9,           /* a reading finds no room: field */
-    SAMOPUTE_OUT_OF_RANGE = 10,     /* value out of its field's range */
-    SAMOPUTE_OTHER_KIND = 11,       /* value of another kind */
-    SAMOPUTE_VALUE_COUNT = 12,      /* a value is missing, or values are left over */
-    SAMOPUTE_TEXT_TOO_LONG = 13,    /* text or bytes too long, or past the lent text */
+    SAMOPUTE_OUT_OF_RANGE = 10,     /* value out of its field's range: field */
+    SAMOPUTE_OTHER_KIND = 11,       /* value of another kind, or of none: field */
+    SAMOPUTE_VALUE_COUNT = 12,      /* a value is missing: field; or values are left over: the table's field count */
+    SAMOPUTE_TEXT_TOO_LONG = 13,    /* text too long, Binary not of its width, or bytes past the lent text: field */
     SAMOPUTE_MALFORMED_LINE = 14,   /* program line malformed */
     SAMOPUTE_UNKNOWN_PGN = 15       /* a PGN that is not built in: the PGN */
 };
@@ -183,6 +189,32 @@ uint32_t samopute_decode(const uint64_t *words, size_t word_count, const uint8_t
 uint32_t samopute_decode_pgn(uint32_t pgn, const uint8_t *payload, size_t payload_length, uint8_t *padding,
                              size_t padding_length, uint8_t *readings, size_t readings_length, uint64_t answer[5]);
 
+/*
+ * Writes values by a table, into all of `payload`. Answers 0, or the number of the refusal.
+ *
+ * values     records of 24 bytes, each a struct samopute_value below, its numbers with the low byte first on every
+ *            machine; one for each field in the order in which a decode makes readings: Reserved and Spare take none,
+ *            and the fields of a set take one for each element, of which there are as many as the counter before them
+ *            says (none where its bits are all ones). A last record that is cut short counts, and is of no kind.
+ * text       the bytes that the values of kind SAMOPUTE_VALUE_BYTES have their places in
+ * payload    at most 223 bytes. Every bit that no field puts is 1, up to its end.
+ * answer[0]  the bytes used, 0 if refused
+ * answer[1], answer[2], answer[3]
+ *            what the refusal carries, then 0
+ *
+ * Nothing is ever cut, clamped or guessed: a value that its field cannot hold is refusal 10, one of another kind, or
+ * whose 64 bits are no value of its kind, 11. Refusals 7 and 8 (and 15) leave the payload as it was. Any other leaves
+ * it all ones but for the fields wholly written before: the field that is named has no bit in it. A payload of a
+ * refused call is not to be sent: ones in an unsigned number say "not available", but in a signed one -1.
+ */
+uint32_t samopute_encode(const uint64_t *words, size_t word_count, const uint8_t *values, size_t values_length,
+                         const uint8_t *text, size_t text_length, uint8_t *payload, size_t payload_length,
+                         uint64_t answer[4]);
+
+/* The same by a built-in table, as samopute_decode_pgn has them. Any other PGN is refusal 15, before 7. */
+uint32_t samopute_encode_pgn(uint32_t pgn, const uint8_t *values, size_t values_length, const uint8_t *text,
+                             size_t text_length, uint8_t *payload, size_t payload_length, uint64_t answer[4]);
+
 /* Checks a table. 0: accepted. 8: answer[0] is the rule, 1 for a to 8 for h, answer[1] the field or the set. */
 uint32_t samopute_check(const uint64_t *words, size_t word_count, uint64_t answer[3]);
 
@@ -226,7 +258,10 @@ size_t samopute_bits_remaining(const uint8_t *buffer, size_t length, size_t curs
 uint32_t samopute_scale(uint32_t kind, uint32_t width, uint32_t is_signed, uint32_t mark, uint32_t resolution,
                         uint64_t raw, uint64_t answer[3]);
 
-/* The raw of a value. 0: answer[0] is the raw. 10: out of range. 11: the field takes no such value. */
+/*
+ * The raw of a value. 0: answer[0] is the raw. 10: out of range. 11: the field takes no such value, or `value` is no
+ * value of its kind (300 as an U8, 0xFFFF as an I16): nothing is cut to low bits.
+ */
 uint32_t samopute_raw_of(uint32_t kind, uint32_t width, uint32_t is_signed, uint32_t mark, uint32_t resolution,
                          uint32_t value_kind, uint64_t value, uint64_t answer[3]);
 
@@ -361,6 +396,105 @@ static inline int samopute_value_double(const struct samopute_reading *reading, 
     default:
         return 0;
     }
+}
+
+/* ---- Values to be encoded ---------------------------------------------------------------------------------------- */
+
+/*
+ * A value. The layout is that of a record on a machine that puts the low byte first; samopute_put_value makes the bytes
+ * on any machine. An unscaled field takes integers of its sign, U8 to U64 or I8 to I64; a scaled one floats and signed
+ * integers; a Float an F32; a text or a Binary of whole bytes takes bytes.
+ */
+struct samopute_value {
+    uint8_t kind;         /* enum samopute_value_kind */
+    uint8_t has_encoding; /* of bytes: not 0 if `encoding` is one, which only a StringLau takes */
+    uint8_t encoding;
+    uint8_t reserved[5];  /* not looked at */
+    uint64_t value;       /* a number's bits, as in a reading; or the first byte in the lent text */
+    uint64_t length;      /* of bytes; not looked at for a number */
+};
+
+typedef char samopute_value_is_a_record[sizeof(struct samopute_value) == SAMOPUTE_VALUE_LENGTH ? 1 : -1];
+
+/* A value by its kind and its bits, or its first byte. */
+static inline struct samopute_value samopute_value_of(uint8_t kind, uint64_t value, uint64_t length)
+{
+    struct samopute_value made;
+    memset(&made, 0, sizeof made);
+    made.kind = kind;
+    made.value = value;
+    made.length = length;
+    return made;
+}
+
+static inline struct samopute_value samopute_value_of_u64(uint64_t number)
+{
+    return samopute_value_of(SAMOPUTE_VALUE_U64, number, 0);
+}
+
+static inline struct samopute_value samopute_value_of_i64(int64_t number)
+{
+    return samopute_value_of(SAMOPUTE_VALUE_I64, (uint64_t)number, 0);
+}
+
+static inline struct samopute_value samopute_value_of_f64(double number)
+{
+    uint64_t bits;
+    memcpy(&bits, &number, sizeof bits);
+    return samopute_value_of(SAMOPUTE_VALUE_F64, bits, 0);
+}
+
+static inline struct samopute_value samopute_value_of_f32(float number)
+{
+    return samopute_value_of(SAMOPUTE_VALUE_F32, samopute_resolution(number), 0);
+}
+
+/* `length` bytes of the lent text, from byte `first` on: a text or a Binary. An empty StringLau is absent. */
+static inline struct samopute_value samopute_value_of_bytes(uint64_t first, uint64_t length)
+{
+    return samopute_value_of(SAMOPUTE_VALUE_BYTES, first, length);
+}
+
+/* The same with the encoding byte of a StringLau. */
+static inline struct samopute_value samopute_value_of_lau(uint64_t first, uint64_t length, uint8_t encoding)
+{
+    struct samopute_value made = samopute_value_of_bytes(first, length);
+    made.has_encoding = 1;
+    made.encoding = encoding;
+    return made;
+}
+
+/*
+ * The value that was read, to be written again. Lend the payload that the readings stand in (samopute_working_payload)
+ * as the text, and another buffer as the payload.
+ */
+static inline struct samopute_value samopute_value_of_reading(const struct samopute_reading *reading)
+{
+    struct samopute_value made = samopute_value_of(reading->value_kind, reading->value, reading->length);
+    made.has_encoding = reading->has_encoding;
+    made.encoding = reading->encoding;
+    return made;
+}
+
+/* Puts eight bytes, the low one first. */
+static inline void samopute_put_word(uint8_t *bytes, uint64_t word)
+{
+    int i;
+    for (i = 0; i < 8; i++) {
+        bytes[i] = (uint8_t)(word >> 8 * i);
+    }
+}
+
+/* Puts value i of a run of values, which has SAMOPUTE_VALUES_LENGTH(i + 1) bytes or more. */
+static inline void samopute_put_value(uint8_t *values, size_t i, struct samopute_value value)
+{
+    uint8_t *record = values + SAMOPUTE_VALUES_LENGTH(i);
+    memset(record, 0, 8);
+    record[0] = value.kind;
+    record[1] = value.has_encoding;
+    record[2] = value.encoding;
+    samopute_put_word(record + 8, value.value);
+    samopute_put_word(record + 16, value.length);
 }
 
 #ifdef __cplusplus

@@ -71,6 +71,9 @@ static const uint64_t table[] = {
     SAMOPUTE_FIELD(SAMOPUTE_NUMBER, 16, 1, SAMOPUTE_MARK_DOUBLE, 0x3C23D70A),
     SAMOPUTE_SET(1, 1, 0, 255),
 };
+END
+    make_values
+    cat <<'END'
 int main(void)
 {
     uint8_t readings[SAMOPUTE_READINGS_LENGTH(1)] = {1, 0, 0, 0, 0, 0, 0, 0, 5};
@@ -103,7 +106,70 @@ int main(void)
     if (SAMOPUTE_FIELD(257, 65792, 2, 0, 0) != SAMOPUTE_FIELD(255, 65535, 1, 0, 0)) {
         return 6;
     }
-    return samopute_check(table, sizeof table / sizeof table[0], answer) == SAMOPUTE_DONE ? 0 : 7;
+    if (samopute_check(table, sizeof table / sizeof table[0], answer) != SAMOPUTE_DONE) {
+        return 7;
+    }
+    return values();
+}
+END
+}
+
+# What the helpers put is what the calls take: each kind of value, written, read, and written again.
+make_values() {
+    cat <<'END'
+static const uint64_t each[] = {
+    SAMOPUTE_HEAD(6, 0, 0, 0),
+    SAMOPUTE_FIELD(SAMOPUTE_NUMBER, 64, 0, SAMOPUTE_MARK_NONE, 0),
+    SAMOPUTE_FIELD(SAMOPUTE_NUMBER, 8, 1, SAMOPUTE_MARK_NONE, 0),
+    SAMOPUTE_FIELD(SAMOPUTE_NUMBER, 16, 0, SAMOPUTE_MARK_DOUBLE, 0x3C23D70A),
+    SAMOPUTE_FIELD(SAMOPUTE_FLOAT, 32, 0, SAMOPUTE_MARK_NONE, 0),
+    SAMOPUTE_FIELD(SAMOPUTE_STRING_LAU, 0, 0, SAMOPUTE_MARK_NONE, 0),
+    SAMOPUTE_FIELD(SAMOPUTE_BINARY, 24, 0, SAMOPUTE_MARK_NONE, 0),
+};
+static int values(void)
+{
+    static const uint8_t wanted[23] = {8, 7, 6,    5,    4, 3, 2,   1,   0xFD, 0xF4, 1, 0,
+                                       0, 0xC0, 0x3F, 4, 1, 'h', 'i', 9,    8,    7, 0xFF};
+    static const uint8_t text[5] = {9, 8, 7, 'h', 'i'};
+    struct samopute_value as_they_are[6];
+    struct samopute_reading reading;
+    uint8_t records[SAMOPUTE_VALUES_LENGTH(6)], readings[SAMOPUTE_READINGS_LENGTH(6)];
+    uint8_t padding[SAMOPUTE_PADDING_LENGTH], payload[23], again[23];
+    uint64_t answer[4], decoded[5];
+    size_t i;
+    as_they_are[0] = samopute_value_of_u64(0x0102030405060708);
+    as_they_are[1] = samopute_value_of_i64(-3);
+    as_they_are[2] = samopute_value_of_f64(5);
+    as_they_are[3] = samopute_value_of_f32(1.5f);
+    as_they_are[4] = samopute_value_of_lau(3, 2, 1);
+    as_they_are[5] = samopute_value_of_bytes(0, 3);
+    for (i = 0; i < 6; i++) {
+        samopute_put_value(records, i, as_they_are[i]);
+    }
+    if (memcmp(records, as_they_are, sizeof records) != 0) {
+        return 8;
+    }
+    if (samopute_encode(each, 7, records, sizeof records, text, sizeof text, payload, sizeof payload, answer) != 0 ||
+        answer[0] != 22 || memcmp(payload, wanted, sizeof wanted) != 0) {
+        return 9;
+    }
+    if (samopute_decode(each, 7, payload, 22, padding, sizeof padding, readings, sizeof readings, decoded) != 0) {
+        return 10;
+    }
+    for (i = 0; i < 6; i++) {
+        samopute_reading_at(readings, i, &reading);
+        samopute_put_value(records, i, samopute_value_of_reading(&reading));
+    }
+    if (samopute_encode(each, 7, records, sizeof records, payload, 22, again, sizeof again, answer) != 0 ||
+        memcmp(again, wanted, sizeof wanted) != 0) {
+        return 11;
+    }
+    samopute_put_value(records, 1, samopute_value_of(SAMOPUTE_VALUE_I8, 0xFD, 0));
+    if (samopute_encode(each, 7, records, sizeof records, payload, 22, again, sizeof again, answer) != 11 ||
+        answer[1] != 1) {
+        return 12;
+    }
+    return 0;
 }
 END
 }
@@ -137,9 +203,10 @@ no_state() {
         awk '$7 ~ /W/ && $5 !~ /^0+$/ && $1 !~ /^\.data\.rel\.ro/ { print "writable: " $1 " of 0x" $5; n++ } END { exit n > 0 }'
 }
 
+# example NAME: it prints what its file says.
 example() {
-    "$cc" -std=c99 -Wall -Wextra -Wpedantic -Werror -I include examples/c/decode.c "$library" -o "$work/decode" &&
-        "$work/decode" >"$work/decoded" && diff "$work/decoded" examples/c/decode.stdout
+    "$cc" -std=c99 -Wall -Wextra -Wpedantic -Werror -I include "examples/c/$1.c" "$library" -o "$work/$1" &&
+        "$work/$1" >"$work/printed" && diff "$work/printed" "examples/c/$1.stdout"
 }
 
 # built FLAGS.. -- PROGRAM ARGUMENTS..: builds tests/PROGRAM.c and runs it.
@@ -201,7 +268,8 @@ fi
 if command -v "$cc" >/dev/null; then
     test_of "the header in C99" header "$cc" -std=c99 -Wall -Wextra -Wpedantic
     test_of "the header in C11" header "$cc" -std=c11 -Wall -Wextra -Wpedantic
-    test_of "the C example" example
+    test_of "the C example that decodes" example decode
+    test_of "the C example that encodes" example encode
     test_of "hostile input, $rounds rounds" built -O2 -- hostile "$rounds" 1 && told
     test_of "hostile input under the address checker, $checked_rounds rounds" \
         built -O1 -g -fsanitize=address,undefined -fno-sanitize-recover=all -- hostile "$checked_rounds" 2 && told

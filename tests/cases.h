@@ -1,5 +1,5 @@
 /*
- * Random tables and payloads for tests/hostile.c and tests/stack.c. A round's numbers come from the seed and the
+ * Random tables, payloads and values for tests/hostile.c and tests/stack.c. A round's numbers come from the seed and the
  * round alone, so that one round can be run again by itself.
  */
 #ifndef CASES_H
@@ -9,6 +9,8 @@
 
 #define WORDS_MAX 80
 #define PAYLOAD_MOST 260
+#define VALUES_MOST 400
+#define TEXT_MOST 300
 
 struct draws {
     uint64_t state;
@@ -332,6 +334,170 @@ static inline size_t some_payload(struct draws *d, uint8_t *payload)
         }
     }
     return length;
+}
+
+/* ---- Values ------------------------------------------------------------------------------------------------------ */
+
+/* A run of values, with the length of the text that they have their places in. */
+struct values {
+    uint8_t bytes[SAMOPUTE_VALUES_LENGTH(VALUES_MOST)];
+    size_t count;
+    size_t text_length;
+};
+
+static inline void add_value(struct values *v, struct samopute_value value)
+{
+    if (v->count < VALUES_MOST) {
+        samopute_put_value(v->bytes, v->count++, value);
+    }
+}
+
+/* Any record at all: of any kind or none, with 64 bits that are often no value of it. */
+static inline struct samopute_value some_odd_value(struct draws *d)
+{
+    struct samopute_value v = samopute_value_of((uint8_t)below(d, 13), draw(d) >> below(d, 64), draw(d));
+    v.length >>= below(d, 64);
+    v.has_encoding = once_in(d, 2) ? (uint8_t)draw(d) : 0;
+    v.encoding = (uint8_t)draw(d);
+    return once_in(d, 4) ? samopute_value_of_i64(-(int64_t)below(d, 300)) : v;
+}
+
+/* What some raw of a number field says, now and then doubled, which may be beyond its range. */
+static inline struct samopute_value some_number_value(struct draws *d, uint64_t field)
+{
+    uint64_t raw = draw(d) >> below(d, 64);
+    uint64_t answer[3];
+    uint32_t kind =
+        samopute_scale((uint32_t)(field & 0xFF), (uint32_t)(field >> 8 & 0xFFFF), (uint32_t)(field >> 24 & 1),
+                       (uint32_t)(field >> 25 & 3), (uint32_t)(field >> 32), raw, answer);
+    if (kind == SAMOPUTE_VALUE_F64 && once_in(d, 8)) {
+        return samopute_value_of_f64(samopute_bits_f64(answer[0]) * 2);
+    }
+    if (kind == SAMOPUTE_VALUE_F32 && once_in(d, 8)) {
+        return samopute_value_of_f64(samopute_bits_f32(answer[0]));
+    }
+    return samopute_value_of((uint8_t)kind, answer[0], draw(d));
+}
+
+/* Bytes of the text that the field takes, but for a few. */
+static inline struct samopute_value some_bytes_value(struct draws *d, uint64_t field, size_t text_length)
+{
+    uint64_t kind = field & 0xFF;
+    uint64_t size = (field >> 8 & 0xFFFF) / 8;
+    uint64_t length = kind == SAMOPUTE_BINARY ? size : below(d, once_in(d, 8) ? 224 : 8);
+    uint64_t first;
+    if (kind == SAMOPUTE_STRING_FIX && !once_in(d, 16)) {
+        length = below(d, size + 1);
+    }
+    first = length <= text_length ? below(d, text_length - length + 1) : below(d, 3);
+    if (once_in(d, 24)) {
+        first = draw(d) >> below(d, 64);
+    }
+    if (kind == SAMOPUTE_STRING_LAU && length + below(d, 2) > 0) {
+        return samopute_value_of_lau(first, length, (uint8_t)draw(d));
+    }
+    return samopute_value_of_bytes(first, length);
+}
+
+static inline struct samopute_value some_value(struct draws *d, uint64_t field, size_t text_length)
+{
+    uint64_t kind = field & 0xFF;
+    int is_text = kind >= SAMOPUTE_STRING_FIX && kind <= SAMOPUTE_STRING_LAU;
+    if (once_in(d, 60)) {
+        return some_odd_value(d);
+    }
+    return is_text || (kind == SAMOPUTE_BINARY && (field >> 8 & 7) == 0) ? some_bytes_value(d, field, text_length)
+                                                                          : some_number_value(d, field);
+}
+
+static inline void add_value_for(struct draws *d, uint64_t field, struct values *v)
+{
+    uint64_t kind = field & 0xFF;
+    if (kind != SAMOPUTE_RESERVED && kind != SAMOPUTE_SPARE) {
+        add_value(v, some_value(d, field, v->text_length));
+    }
+}
+
+/* The first set whose start (part 0 of its word) or counter (part 2) is field i; as many as there are if none is. */
+static inline uint64_t set_with(const uint64_t *words, unsigned part, uint64_t i)
+{
+    const uint64_t *sets = words + 1 + (words[0] & 0xFFFF);
+    uint64_t k = 0;
+    while (k < (words[0] >> 16 & 0xFFFF) && (sets[k] >> 16 * part & 0xFFFF) != i) {
+        k++;
+    }
+    return k;
+}
+
+/* A counter's value, and the elements that it says: few, none where it is all ones, or one over the set's maximum. */
+static inline uint64_t add_counter(struct draws *d, uint64_t field, uint64_t set, struct values *v)
+{
+    uint64_t ones = UINT64_MAX >> (64 - (field >> 8 & 0xFFFF));
+    uint64_t number = below(d, 4) & ones;
+    if (once_in(d, 12)) {
+        number = once_in(d, 2) ? ones : (set >> 48) + 1;
+    }
+    add_value(v, samopute_value_of_u64(number));
+    return number == ones ? 0 : number;
+}
+
+static inline void add_elements(struct draws *d, const uint64_t *words, uint64_t set, uint64_t count, struct values *v)
+{
+    uint64_t e, j;
+    for (e = 0; e < count && e < 8; e++) {
+        for (j = 0; j < (set >> 16 & 0xFFFF); j++) {
+            add_value_for(d, words[1 + (set & 0xFFFF) + j], v);
+        }
+    }
+}
+
+/* Values for every field of an accepted table, in the order of the walk. */
+static inline void add_fitting_values(struct draws *d, const uint64_t *words, struct values *v)
+{
+    uint64_t fields = words[0] & 0xFFFF;
+    uint64_t set_count = words[0] >> 16 & 0xFFFF;
+    const uint64_t *sets = words + 1 + fields;
+    uint64_t elements[64] = {0}; /* by their counters */
+    uint64_t i;
+    for (i = 0; i < fields; i++) {
+        uint64_t started = set_with(words, 0, i);
+        uint64_t counted = set_with(words, 2, i);
+        if (started < set_count) {
+            add_elements(d, words, sets[started], elements[sets[started] >> 32 & 0xFFFF], v);
+            i += (sets[started] >> 16 & 0xFFFF) - 1;
+        } else if (counted < set_count) {
+            elements[i] = add_counter(d, words[1 + i], sets[counted], v);
+        } else {
+            add_value_for(d, words[1 + i], v);
+        }
+    }
+}
+
+/* Values by a table: fitting, some too many or too few, or any at all. Answers their bytes: the last may be cut short. */
+static inline size_t some_values(struct draws *d, const uint64_t *words, size_t word_count, size_t text_length,
+                                 struct values *v)
+{
+    uint64_t checked[3];
+    v->count = 0;
+    v->text_length = text_length;
+    if (samopute_check(words, word_count, checked) == 0 && !once_in(d, 20)) {
+        add_fitting_values(d, words, v);
+    } else {
+        uint64_t more = below(d, 20);
+        while (more-- > 0) {
+            add_value(v, some_odd_value(d));
+        }
+    }
+    if (once_in(d, 16)) {
+        add_value(v, some_odd_value(d));
+    }
+    if (v->count > 0 && once_in(d, 16)) {
+        v->count -= (size_t)below(d, v->count + 1);
+    }
+    if (v->count > 0 && once_in(d, 16)) {
+        return SAMOPUTE_VALUES_LENGTH(v->count) - (size_t)below(d, SAMOPUTE_VALUE_LENGTH);
+    }
+    return SAMOPUTE_VALUES_LENGTH(v->count);
 }
 
 #endif

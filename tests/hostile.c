@@ -8,7 +8,8 @@
  *
  * The first two are what holds the library to its word: it is not compiled with the checker, which therefore does not see
  * its loads and stores. What a call answers and what it leaves in each buffer is held too: against the other calls, and
- * against plain models of the bit calls. A fault or a wrong answer is told with the seed and the round, and ends the run.
+ * against plain models of the bit calls and of encode. A fault or a wrong answer is told with the seed and the round, and
+ * ends the run.
  *
  *     hostile ROUNDS SEED [FIRST]      from round FIRST on (0)
  */
@@ -21,6 +22,7 @@
 #include <unistd.h>
 
 #include "cases.h"
+#include "plain_encode.h"
 
 #define READINGS_MOST SAMOPUTE_READINGS_LENGTH(SAMOPUTE_ROOM_ENOUGH + 1)
 #define BITS_MOST (SAMOPUTE_BUFFER_MAX + 16)
@@ -34,8 +36,9 @@ static uint64_t seed;
 static uint64_t this_round;
 static const char *volatile this_call = "none";
 
-/* How often each status was answered by a decode, and by any other call. */
+/* How often each status was answered by a decode, by an encode, and by any other call. */
 static uint64_t decoded[16];
+static uint64_t encoded[16];
 static uint64_t answered[16];
 
 /* ---- What is told ------------------------------------------------------------------------------------------------ */
@@ -136,7 +139,7 @@ struct lent {
     uint8_t *heap;
 };
 
-enum { WORDS, PAYLOAD, PADDING, READINGS, ANSWER, BITS, SOURCE, ARENAS };
+enum { WORDS, PAYLOAD, PADDING, READINGS, ANSWER, BITS, SOURCE, VALUES, TEXT, ARENAS };
 
 static struct arena arenas[ARENAS];
 static enum place place;
@@ -160,8 +163,9 @@ static struct arena open_arena(size_t least)
 
 static void open_arenas(void)
 {
-    static const size_t sizes[ARENAS] = {WORDS_MAX * 8, PAYLOAD_MOST, PAYLOAD_MOST, READINGS_MOST,
-                                         5 * 8,         BITS_MOST,    BITS_MOST};
+    static const size_t sizes[ARENAS] = {WORDS_MAX * 8, PAYLOAD_MOST, PAYLOAD_MOST,
+                                         READINGS_MOST, 5 * 8,        BITS_MOST,
+                                         BITS_MOST,     SAMOPUTE_VALUES_LENGTH(VALUES_MOST), TEXT_MOST};
     struct draws d = draws_of(seed, UINT64_MAX);
     size_t i;
     for (i = 0; i < ARENAS; i++) {
@@ -244,31 +248,30 @@ static uint32_t call_decode(const struct decode *c, struct lent readings, uint64
 }
 
 /* The words of a PGN's table, none if it is not built in. */
-static void take_built_in(struct decode *c)
+static size_t built_in_words(uint32_t pgn, uint64_t *words)
 {
     size_t i;
-    c->word_count = 0;
     for (i = 0; i < BUILT_IN_COUNT; i++) {
-        if (built_ins[i].pgn == c->pgn) {
-            c->word_count = built_ins[i].count;
-            memcpy(c->words, built_ins[i].words, c->word_count * sizeof c->words[0]);
+        if (built_ins[i].pgn == pgn) {
+            memcpy(words, built_ins[i].words, built_ins[i].count * sizeof words[0]);
+            return built_ins[i].count;
         }
     }
+    return 0;
 }
 
-/* A table of words; or a PGN, now and then with a bit turned. */
-static void choose_table(struct draws *d, struct decode *c)
+/* A table of words; or a PGN, now and then with a bit turned, and its words. Answers how many words. */
+static size_t choose_table(struct draws *d, uint64_t *words, int *by_pgn, uint32_t *pgn)
 {
-    c->by_pgn = once_in(d, 6);
-    if (!c->by_pgn) {
-        c->word_count = some_table(d, c->words);
-        return;
+    *by_pgn = once_in(d, 6);
+    if (!*by_pgn) {
+        return some_table(d, words);
     }
-    c->pgn = built_ins[below(d, BUILT_IN_COUNT)].pgn;
+    *pgn = built_ins[below(d, BUILT_IN_COUNT)].pgn;
     if (once_in(d, 6)) {
-        c->pgn ^= (uint32_t)1 << below(d, 32);
+        *pgn ^= (uint32_t)1 << below(d, 32);
     }
-    take_built_in(c);
+    return built_in_words(*pgn, words);
 }
 
 static size_t some_readings_length(struct draws *d)
@@ -286,7 +289,7 @@ static void choose_decode(struct draws *d, struct decode *c)
 {
     size_t padding = once_in(d, 12) ? (size_t)below(d, PAYLOAD_MOST + 1) : SAMOPUTE_PADDING_LENGTH;
     size_t readings = some_readings_length(d);
-    choose_table(d, c);
+    c->word_count = choose_table(d, c->words, &c->by_pgn, &c->pgn);
     c->payload_length = some_payload(d, c->payload);
     c->padding_before = some_noise(d, padding);
     c->readings_before = some_noise(d, readings);
@@ -536,6 +539,132 @@ static void decode_round(struct draws *d)
     }
     for (i = WORDS; i <= ANSWER; i++) {
         take_back(c.lent[i]);
+    }
+}
+
+/* ---- Encode ------------------------------------------------------------------------------------------------------ */
+
+/* A call: what is lent, what stood there before, and what came of it. */
+struct encode {
+    uint64_t words[WORDS_MAX];
+    size_t word_count;
+    struct values values;
+    uint32_t pgn;
+    int by_pgn;
+    const uint8_t *text_before;
+    const uint8_t *payload_before;
+    struct lent lent[ARENAS];
+    uint32_t status;
+    uint64_t answer[4];
+};
+
+static uint32_t call_encode(const struct encode *c)
+{
+    const struct lent *l = c->lent;
+    uint64_t *answer = (uint64_t *)(void *)l[ANSWER].bytes;
+    if (c->by_pgn) {
+        this_call = "samopute_encode_pgn";
+        return samopute_encode_pgn(c->pgn, l[VALUES].bytes, l[VALUES].length, l[TEXT].bytes, l[TEXT].length,
+                                   l[PAYLOAD].bytes, l[PAYLOAD].length, answer);
+    }
+    this_call = "samopute_encode";
+    return samopute_encode((const uint64_t *)(const void *)l[WORDS].bytes, c->word_count, l[VALUES].bytes,
+                           l[VALUES].length, l[TEXT].bytes, l[TEXT].length, l[PAYLOAD].bytes, l[PAYLOAD].length,
+                           answer);
+}
+
+/* Values have most often the room that they want, and a text that holds them. */
+static void choose_encode(struct draws *d, struct encode *c)
+{
+    size_t text = (size_t)(once_in(d, 8) ? below(d, 3) : below(d, TEXT_MOST + 1));
+    size_t payload = once_in(d, 2) ? SAMOPUTE_PAYLOAD_MAX : some_payload_length(d);
+    size_t values;
+    c->word_count = choose_table(d, c->words, &c->by_pgn, &c->pgn);
+    values = some_values(d, c->words, c->word_count, text, &c->values);
+    c->text_before = some_noise(d, text);
+    c->payload_before = some_noise(d, payload);
+    c->lent[WORDS] = lend(WORDS, c->words, c->word_count * sizeof c->words[0]);
+    c->lent[VALUES] = lend(VALUES, c->values.bytes, values);
+    c->lent[TEXT] = lend(TEXT, c->text_before, text);
+    c->lent[PAYLOAD] = lend(PAYLOAD, c->payload_before, payload);
+    c->lent[ANSWER] = lend(ANSWER, some_noise(d, sizeof c->answer), sizeof c->answer);
+}
+
+/* What plain code answers and leaves in `payload`. 15 comes first, and touches nothing. */
+static struct plain_encode plain_of(const struct encode *c, uint8_t *payload)
+{
+    struct plain_encode p = {c->words,       c->word_count,         c->values.bytes, c->lent[VALUES].length,
+                             c->text_before, c->lent[TEXT].length,  payload,         c->lent[PAYLOAD].length,
+                             0,              0,                     {0, 0, 0, 0},    0,
+                             {0, 0, 0, 0}};
+    memcpy(payload, c->payload_before, p.length);
+    if (c->by_pgn && c->word_count == 0) {
+        plain_refuse(&p, 15, c->pgn, 0, 0);
+    } else {
+        plain_encode(&p);
+    }
+    return p;
+}
+
+/* A number that was written reads as the raw of its value, and bytes as themselves; a StringFix with its filling. */
+static void check_came_back(const struct encode *c, const struct plain_encode *p, size_t i,
+                            const struct samopute_reading *r)
+{
+    struct samopute_value v = plain_value(p, i);
+    uint64_t raw[3];
+    if (r->has_raw) {
+        hold(plain_raw(c->words[1 + r->field], &v, raw) == 0 && raw[0] == r->raw, "another raw than was written");
+        return;
+    }
+    hold(r->length >= v.length, "fewer bytes than were written");
+    hold(same(c->lent[PAYLOAD].bytes + r->value, c->text_before + v.value, (size_t)v.length),
+         "other bytes than were written");
+    hold(r->has_encoding == (v.has_encoding != 0) && (!r->has_encoding || r->encoding == v.encoding),
+         "another encoding than was written");
+}
+
+/* What was written is read, by the same table: as many readings as values, each with its raw or its bytes. */
+static void check_read_back(const struct encode *c, const struct plain_encode *p)
+{
+    static uint8_t readings[SAMOPUTE_READINGS_LENGTH(SAMOPUTE_ROOM_ENOUGH)];
+    uint8_t padding[SAMOPUTE_PADDING_LENGTH];
+    struct samopute_reading r;
+    uint64_t answer[5];
+    size_t i;
+    this_call = "samopute_decode";
+    hold(samopute_decode(c->words, c->word_count, c->lent[PAYLOAD].bytes, (size_t)c->answer[0], padding, sizeof padding,
+                         readings, sizeof readings, answer) == 0,
+         "a payload that was written is refused");
+    hold(answer[0] == plain_value_count(p) && answer[2] == p->at, "other readings than values");
+    for (i = 0; i < answer[0]; i++) {
+        samopute_reading_at(readings, i, &r);
+        check_came_back(c, p, i, &r);
+    }
+}
+
+static void encode_round(struct draws *d)
+{
+    static const int lent[] = {WORDS, VALUES, TEXT, PAYLOAD, ANSWER};
+    uint8_t payload[PAYLOAD_MOST];
+    struct plain_encode p;
+    struct encode c;
+    size_t i;
+    choose_encode(d, &c);
+    c.status = call_encode(&c);
+    memcpy(c.answer, c.lent[ANSWER].bytes, sizeof c.answer);
+    tally(encoded, c.status);
+    p = plain_of(&c, payload);
+    hold(c.status == p.status, "another status than the model's");
+    hold(same(c.answer, p.answer, sizeof c.answer), "another answer than the model's");
+    hold(same(c.lent[PAYLOAD].bytes, payload, p.length), "another payload than the model's");
+    hold(same(c.lent[WORDS].bytes, c.words, c.lent[WORDS].length), "words written");
+    hold(same(c.lent[VALUES].bytes, c.values.bytes, c.lent[VALUES].length), "values written");
+    hold(same(c.lent[TEXT].bytes, c.text_before, c.lent[TEXT].length), "text written");
+    if (c.status == 0) {
+        check_read_back(&c, &p);
+    }
+    for (i = 0; i < sizeof lent / sizeof lent[0]; i++) {
+        take_back(c.lent[lent[i]]);
     }
 }
 
@@ -854,13 +983,19 @@ static void check_round(struct draws *d)
 static void run_round(struct draws *d)
 {
     place = (enum place)below(d, PLACES);
-    switch (below(d, 8)) {
+    switch (below(d, 11)) {
     case 0:
     case 1:
         bits_round(d);
         break;
     case 2:
         once_in(d, 2) ? numbers_round(d) : check_round(d);
+        break;
+    case 3:
+    case 4:
+    case 5:
+    case 6:
+        encode_round(d);
         break;
     default:
         decode_round(d);
@@ -896,8 +1031,10 @@ static int met_each(const char *name, const uint64_t *counts, const int *statuse
 static int met_all(void)
 {
     static const int of_decodes[] = {0, 2, 3, 4, 5, 7, 8, 9, 15};
+    static const int of_encodes[] = {0, 2, 3, 5, 7, 8, 10, 11, 12, 13, 15};
     static const int of_others[] = {0, 1, 2, 3, 6, 8, 10, 11};
     return met_each("decodes", decoded, of_decodes, sizeof of_decodes / sizeof of_decodes[0]) &
+           met_each("encodes", encoded, of_encodes, sizeof of_encodes / sizeof of_encodes[0]) &
            met_each("other calls", answered, of_others, sizeof of_others / sizeof of_others[0]);
 }
 
@@ -926,6 +1063,7 @@ int main(int argc, char **argv)
     catch_signals();
     run(rounds, argc == 4 ? strtoull(argv[3], NULL, 10) : 0);
     tell_counts("decodes", decoded);
+    tell_counts("encodes", encoded);
     tell_counts("other calls", answered);
     if (rounds >= ROUNDS_FOR_ALL && !met_all()) {
         return 1;

@@ -29,6 +29,10 @@ static uint8_t padding[SAMOPUTE_PADDING_LENGTH];
 static uint8_t readings[SAMOPUTE_READINGS_LENGTH(SAMOPUTE_ROOM_ENOUGH)];
 static uint64_t answer[5];
 static uint64_t numbers[8];
+static struct values values, pgn_values;
+static size_t values_length, pgn_values_length;
+static uint8_t text[TEXT_MOST];
+static uint8_t written[SAMOPUTE_PAYLOAD_MAX];
 
 static void nothing(void)
 {
@@ -44,6 +48,17 @@ static void decode_pgn(void)
 {
     samopute_decode_pgn((uint32_t)numbers[0], payload, payload_length, padding, sizeof padding, readings,
                         sizeof readings, answer);
+}
+
+static void encode(void)
+{
+    samopute_encode(words, word_count, values.bytes, values_length, text, sizeof text, written, sizeof written, answer);
+}
+
+static void encode_pgn(void)
+{
+    samopute_encode_pgn((uint32_t)numbers[0], pgn_values.bytes, pgn_values_length, text, sizeof text, written,
+                        sizeof written, answer);
 }
 
 static void check(void)
@@ -93,6 +108,8 @@ static struct measured calls[] = {
     {"nothing, for the frame of the measurement itself", nothing, 0},
     {"samopute_decode", decode, 0},
     {"samopute_decode_pgn", decode_pgn, 0},
+    {"samopute_encode", encode, 0},
+    {"samopute_encode_pgn", encode_pgn, 0},
     {"samopute_check", check, 0},
     {"samopute_scale", scale, 0},
     {"samopute_raw_of", raw_of, 0},
@@ -131,9 +148,12 @@ static void measure(struct measured *m)
 
 static void choose(struct draws *d)
 {
+    const struct built_in *b = &built_ins[below(d, BUILT_IN_COUNT)];
     word_count = some_table(d, words);
     payload_length = some_payload(d, payload);
-    numbers[0] = built_ins[below(d, BUILT_IN_COUNT)].pgn;
+    values_length = some_values(d, words, word_count, sizeof text, &values);
+    pgn_values_length = some_values(d, b->words, b->count, sizeof text, &pgn_values);
+    numbers[0] = b->pgn;
     numbers[1] = below(d, 19);
     numbers[2] = between(d, 1, 64);
     numbers[3] = below(d, 2);

@@ -1,8 +1,9 @@
-//! Reads GNSS payloads in NMEA 2000 form, and never guesses: a call answers readings, or a numbered refusal.
+//! Reads and writes GNSS payloads in NMEA 2000 form, and never guesses: a call answers readings or a payload, or a numbered
+//! refusal.
 //!
 //! This is the boundary of Samopute with Rust types. The library behind it is proved to meet its contracts; this crate is
 //! not, and is kept small: `sys` has all of its unsafe code, the rest turns numbers into types. It needs `core` alone and
-//! uses no heap: the buffers are the caller's, in a [`Decoder`].
+//! uses no heap: the buffers are the caller's, in a [`Decoder`] and an [`Encoder`].
 //!
 //! # Building
 //!
@@ -39,6 +40,24 @@
 //! assert_eq!(decoded.readings().count(), 3);
 //! assert_eq!(decoded.end(), Err(Refusal::CutShort { field: 4 }));
 //! assert_eq!(decoded.end().unwrap_err().number(), 4);
+//! ```
+//!
+//! # Values in, frames out
+//!
+//! ```
+//! use samopute::{Encoder, Refusal, Value};
+//!
+//! let mut payload = [0; 8];
+//! let course = Value::F64(1.5708); // rad
+//! let encoder = Encoder::<4>::of(&[Value::U8(42), Value::U8(0), course, Value::F64(391.04)]).unwrap();
+//! assert_eq!(encoder.encode_pgn(129026, &mut payload), Ok(8)); // the bytes used
+//! assert_eq!(payload, [0x2A, 0xFC, 0x5C, 0x3D, 0xC0, 0x98, 0xFF, 0xFF]);
+//!
+//! // A satellite's speed does not fit 16 bits of 0.01 m/s: it is refused, never cut to what fits.
+//! let encoder = Encoder::<4>::of(&[Value::U8(42), Value::U8(0), course, Value::F64(7600.0)]).unwrap();
+//! let refused = encoder.encode_pgn(129026, &mut payload);
+//! assert_eq!(refused, Err(Refusal::ValueOutOfRange { field: 4 }));
+//! assert_eq!(payload, [0x2A, 0xFC, 0x5C, 0x3D, 0xFF, 0xFF, 0xFF, 0xFF]); // no bit of it is there
 //! ```
 //!
 //! # A table of your own
@@ -82,6 +101,7 @@ compile_error!("the static library is for x86-64 Linux: a count of this crate ha
 
 mod bits;
 mod decode;
+mod encode;
 mod layout;
 mod refusal;
 #[allow(unsafe_code)]
@@ -91,6 +111,7 @@ mod value;
 
 pub use crate::bits::{BitReader, BitWriter};
 pub use crate::decode::{Decoded, Decoder, Reading, Readings};
+pub use crate::encode::{Encoder, Full};
 pub use crate::layout::{BUFFER_MAX, PAYLOAD_MAX, ROOM_ENOUGH};
 pub use crate::refusal::{Refusal, Rule};
 pub use crate::table::{Field, Head, Kind, Resolution, Scaled, Set, Table};
@@ -105,10 +126,10 @@ pub struct Version {
     pub minor: u32,
 }
 
-/// Asks the library for its version. This crate is for 1.0.
+/// Asks the library for its version. This crate is for 1.1.
 ///
 /// ```
-/// assert_eq!(samopute::version(), samopute::Version { major: 1, minor: 0 });
+/// assert_eq!(samopute::version(), samopute::Version { major: 1, minor: 1 });
 /// ```
 pub fn version() -> Version {
     let number = sys::version();

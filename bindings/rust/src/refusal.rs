@@ -9,16 +9,17 @@ use core::fmt;
 pub enum Refusal {
     /// 1: width 0, or over the call's maximum.
     Width {
-        /// The field that was read, if it was a decode.
+        /// The field, if it was a decode or an encode.
         field: Option<u64>,
         /// The call's maximum; 64 for width 0.
         maximum: u64,
         /// The width that was asked.
         width: u64,
     },
-    /// 2: beyond the buffer. Number calls count bits. Slice calls count bytes, and `asked` is where the slice would end.
+    /// 2: beyond the buffer. Number calls and an encode count bits. Slice calls count bytes, and `asked` is where the slice
+    /// would end.
     Beyond {
-        /// The field that was read, if it was a decode.
+        /// The field, if it was a decode or an encode.
         field: Option<u64>,
         /// What was asked.
         asked: u64,
@@ -27,7 +28,7 @@ pub enum Refusal {
     },
     /// 3: a byte slice at a cursor that is no multiple of 8.
     Unaligned {
-        /// The field that was read, if it was a decode.
+        /// The field, if it was a decode or an encode.
         field: Option<u64>,
         /// The cursor, in bits.
         cursor: u64,
@@ -51,7 +52,7 @@ pub enum Refusal {
         /// The buffer's length in bytes.
         length: u64,
     },
-    /// 7: a payload over 223 bytes.
+    /// 7: a payload, or a buffer for one, over 223 bytes.
     WrongLength {
         /// The payload's length in bytes.
         length: u64,
@@ -72,6 +73,26 @@ pub enum Refusal {
     OutOfRange,
     /// 11: a value of another kind than the field takes.
     OtherKind,
+    /// 10, in an encode: a value is out of its field's range.
+    ValueOutOfRange {
+        /// The field.
+        field: u64,
+    },
+    /// 11, in an encode: a value of another kind than the field takes.
+    ValueOfOtherKind {
+        /// The field.
+        field: u64,
+    },
+    /// 12: a value is missing, or values are left over.
+    ValueCount {
+        /// The field that has no value; the number of fields, if values are left over.
+        field: u64,
+    },
+    /// 13: a text is too long for its field, or bytes are not of a Binary's width.
+    TextTooLong {
+        /// The field.
+        field: u64,
+    },
     /// 15: a PGN that is not built in.
     UnknownPgn {
         /// The PGN.
@@ -144,10 +165,24 @@ impl Refusal {
             Refusal::WrongLength { .. } => 7,
             Refusal::TableRefused { .. } => 8,
             Refusal::NoRoom { .. } => 9,
-            Refusal::OutOfRange => 10,
-            Refusal::OtherKind => 11,
+            Refusal::OutOfRange | Refusal::ValueOutOfRange { .. } => 10,
+            Refusal::OtherKind | Refusal::ValueOfOtherKind { .. } => 11,
+            Refusal::ValueCount { .. } => 12,
+            Refusal::TextTooLong { .. } => 13,
             Refusal::UnknownPgn { .. } => 15,
             Refusal::Other { number, .. } => *number,
+        }
+    }
+
+    /// A status over 0 of an encode: 10 to 13 carry the field too.
+    pub(crate) fn of_encode(status: u32, carried: [u64; 3]) -> Refusal {
+        let [field, _, _] = carried;
+        match status {
+            10 => Refusal::ValueOutOfRange { field },
+            11 => Refusal::ValueOfOtherKind { field },
+            12 => Refusal::ValueCount { field },
+            13 => Refusal::TextTooLong { field },
+            _ => Refusal::of_decode(status, carried),
         }
     }
 
@@ -281,6 +316,18 @@ impl fmt::Display for Refusal {
             Refusal::NoRoom { field } => write!(f, "no room for the reading of field {field}"),
             Refusal::OutOfRange => write!(f, "a value out of its field's range"),
             Refusal::OtherKind => write!(f, "a value of another kind than the field takes"),
+            Refusal::ValueOutOfRange { field } => {
+                write!(f, "field {field} cannot hold its value")
+            }
+            Refusal::ValueOfOtherKind { field } => {
+                write!(f, "a value of another kind than field {field} takes")
+            }
+            Refusal::ValueCount { field } => {
+                write!(f, "values are missing or left over, at field {field}")
+            }
+            Refusal::TextTooLong { field } => {
+                write!(f, "text or bytes that field {field} does not hold")
+            }
             Refusal::UnknownPgn { pgn } => write!(f, "PGN {pgn} is not built in"),
             Refusal::Other { carried, .. } => write!(f, "carries {carried:?}"),
         }

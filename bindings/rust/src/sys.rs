@@ -3,11 +3,12 @@
 //! Each function answers the status and fills `answer`. The library reads nothing outside of the slices that it is lent and
 //! writes nothing outside of the exclusive ones: that is its promise (docs/PROMISES.md), and what makes these calls safe.
 
-use crate::layout::{PADDING, RECORD};
+use crate::layout::{PADDING, RECORD, VALUE};
 
-/// What a call lays down: a bit call, the table check and the calls on numbers three numbers, a decode five.
+/// What a call lays down: a bit call, the table check and the calls on numbers three numbers, a decode five, an encode four.
 pub(crate) type Answer = [u64; 3];
 pub(crate) type DecodeAnswer = [u64; 5];
+pub(crate) type EncodeAnswer = [u64; 4];
 
 /// A field as the calls on numbers take it.
 #[derive(Clone, Copy)]
@@ -20,7 +21,7 @@ pub(crate) struct RawField {
 }
 
 mod c {
-    use super::{Answer, DecodeAnswer};
+    use super::{Answer, DecodeAnswer, EncodeAnswer};
 
     // SAFETY: these are the declarations of include/samopute.h, type by type.
     unsafe extern "C" {
@@ -46,6 +47,27 @@ mod c {
             readings: *mut u8,
             readings_length: usize,
             answer: *mut DecodeAnswer,
+        ) -> u32;
+        pub fn samopute_encode(
+            words: *const u64,
+            word_count: usize,
+            values: *const u8,
+            values_length: usize,
+            text: *const u8,
+            text_length: usize,
+            payload: *mut u8,
+            payload_length: usize,
+            answer: *mut EncodeAnswer,
+        ) -> u32;
+        pub fn samopute_encode_pgn(
+            pgn: u32,
+            values: *const u8,
+            values_length: usize,
+            text: *const u8,
+            text_length: usize,
+            payload: *mut u8,
+            payload_length: usize,
+            answer: *mut EncodeAnswer,
         ) -> u32;
         pub fn samopute_check(words: *const u64, count: usize, answer: *mut Answer) -> u32;
 
@@ -206,6 +228,54 @@ pub(crate) fn decode_pgn<const N: usize>(
             padding.len(),
             readings.as_mut_ptr(),
             readings.len(),
+            answer,
+        )
+    }
+}
+
+pub(crate) fn encode(
+    words: &[u64],
+    values: &[[u8; VALUE]],
+    text: &[u8],
+    payload: &mut [u8],
+    answer: &mut EncodeAnswer,
+) -> u32 {
+    let values = values.as_flattened();
+    // SAFETY: each pointer and length is that of a live slice, the payload is borrowed exclusively, so that it overlaps none
+    // of the others, and `answer` has room for four numbers.
+    unsafe {
+        c::samopute_encode(
+            words.as_ptr(),
+            words.len(),
+            values.as_ptr(),
+            values.len(),
+            text.as_ptr(),
+            text.len(),
+            payload.as_mut_ptr(),
+            payload.len(),
+            answer,
+        )
+    }
+}
+
+pub(crate) fn encode_pgn(
+    pgn: u32,
+    values: &[[u8; VALUE]],
+    text: &[u8],
+    payload: &mut [u8],
+    answer: &mut EncodeAnswer,
+) -> u32 {
+    let values = values.as_flattened();
+    // SAFETY: as in `encode`.
+    unsafe {
+        c::samopute_encode_pgn(
+            pgn,
+            values.as_ptr(),
+            values.len(),
+            text.as_ptr(),
+            text.len(),
+            payload.as_mut_ptr(),
+            payload.len(),
             answer,
         )
     }

@@ -6,18 +6,20 @@ use Rattle.samopute_c.proofs.checking.samopute_check.Reads as check
 use Rattle.samopute_c.proofs.decoding.samopute_decode.Reads as decode
 use Rattle.samopute_c.proofs.decoding.samopute_decode_pgn.Reads as decode-pgn
 use Rattle.samopute_c.proofs.decoding.samopute_version.Reads as version
+use Rattle.samopute_c.proofs.encoding.samopute_encode.Reads as encode
+use Rattle.samopute_c.proofs.encoding.samopute_encode_pgn.Reads as encode-pgn
 use Rattle.samopute_c.proofs.reads.samopute_read_u64.Reads as read-u64
 use Rattle.samopute_c.proofs.reads.samopute_read_u32.Reads as read-u32
 use Rattle.samopute_c.proofs.reads.samopute_read_u16.Reads as read-u16
 use Rattle.samopute_c.proofs.reads.samopute_read_u8.Reads as read-u8
 use Rattle.samopute_c.proofs.reads.samopute_advance.Reads as advance
 use Rattle.samopute_c.proofs.reads.samopute_read_slice.Reads as read-slice
-use Rattle.samopute_c.proofs.writing.samopute_write_u64.Reads as write-u64
-use Rattle.samopute_c.proofs.writing.samopute_write_u32.Reads as write-u32
-use Rattle.samopute_c.proofs.writing.samopute_write_u16.Reads as write-u16
-use Rattle.samopute_c.proofs.writing.samopute_write_u8.Reads as write-u8
-use Rattle.samopute_c.proofs.writing.samopute_write_advance.Reads as write-advance
-use Rattle.samopute_c.proofs.writing.samopute_write_slice.Reads as write-slice
+use Rattle.samopute_c.proofs.writes.samopute_write_u64.Reads as write-u64
+use Rattle.samopute_c.proofs.writes.samopute_write_u32.Reads as write-u32
+use Rattle.samopute_c.proofs.writes.samopute_write_u16.Reads as write-u16
+use Rattle.samopute_c.proofs.writes.samopute_write_u8.Reads as write-u8
+use Rattle.samopute_c.proofs.writes.samopute_write_advance.Reads as write-advance
+use Rattle.samopute_c.proofs.writes.samopute_write_slice.Reads as write-slice
 use Rattle.samopute_c.proofs.scaling.samopute_scale.Reads as scale
 use Rattle.samopute_c.proofs.scaling.samopute_raw_of.Reads as raw-of
 use Rattle.samopute_c.proofs.samopute_bits_remaining.Reads as bits-remaining
@@ -166,6 +168,26 @@ out-decode-pgn = fixed (λ κs a x s p. p .1 .1 .0)
 
 told-decode-pgn : Fixes decode-pgn.Post (λ κs x s. now (s .1 .1 .1 .1 .0))
 told-decode-pgn = fixed (λ κs a x s p. p .1 .1 .1)
+
+-- Encoding: the status, the payload, the lent `answer`.
+
+one-encode : Fixes encode.Post (λ κs x s. x)
+one-encode = fixed (λ κs a x s p. p .0)
+
+out-encode : Fixes encode.Post (λ κs x s. now (s .1 .1 .1 .0))
+out-encode = fixed (λ κs a x s p. p .1 .0)
+
+told-encode : Fixes encode.Post (λ κs x s. now (s .1 .1 .1 .1 .0))
+told-encode = fixed (λ κs a x s p. p .1 .1)
+
+one-encode-pgn : Fixes encode-pgn.Post (λ κs x s. x)
+one-encode-pgn = fixed (λ κs a x s p. p .0)
+
+out-encode-pgn : Fixes encode-pgn.Post (λ κs x s. now (s .1 .1 .1 .0))
+out-encode-pgn = fixed (λ κs a x s p. p .1 .0)
+
+told-encode-pgn : Fixes encode-pgn.Post (λ κs x s. now (s .1 .1 .1 .1 .0))
+told-encode-pgn = fixed (λ κs a x s p. p .1 .1)
 
 one-version : Fixes version.Post (λ κs x s. x)
 one-version = fixed (λ κs a x s p. p)

@@ -2,3 +2,4 @@ pub mod Answers
 pub mod Values
 pub mod Checks
 pub mod Decodes
+pub mod Encodes

@@ -106,5 +106,5 @@ pub extern "C" fn samopute_decode_pgn(
 pub extern "C" fn samopute_version() -> u32
     ensures { λ r. ⌜ r ≡ versionOf ⌝ }
 {
-    0x1_0000
+    0x1_0001
 }

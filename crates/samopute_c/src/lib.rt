@@ -1,11 +1,12 @@
 // The boundary to C and Rust: functions on numbers and byte slices, under plain names.
 //
-// Promise: each call takes whatever it is given and answers as the crate `bits` or `numbers` does,
-// laid out as specs/Answers.antt and specs/Values.antt say. A bit call's status is 0 or document
-// 01's number of the refusal; the lent `answer` gets the cursor after the call, then the number
-// read (or the start and the length of the part), or what the refusal carries. A field goes in as
-// five numbers and a value as two, its kind's code and 64 bits. No call has a `requires`. A slice is
-// a pointer and a length, and `answer` a pointer to three numbers.
+// Promise: each call takes whatever it is given and answers as the crates below do, laid out as specs/
+// says. A status is 0 or document 01's number of the refusal. A bit call's lent `answer` gets the
+// cursor after the call, then the number read (or the start and the length of the part), or what the
+// refusal carries. A field goes in as five numbers and a value as two, its kind's code and 64 bits,
+// none of which is cut to low bits. Readings come out as records of 64 bytes, and the values of an
+// encode go in as records of 24. No call has a `requires`. A slice is a pointer and a length, and
+// `answer` a pointer to as many numbers as its type says.
 ghost use mathlib.Core.Path.{_≡_};
 ghost use lib.ListN.{length};
 ghost use Rattle.bits.specs.Calls.{cursorAt, remainingOf};
@@ -17,15 +18,18 @@ use bits::Moved;
 
 mod checking;
 mod decoding;
+mod encoding;
 mod reads;
 mod scaling;
-mod values;
-mod writing;
+mod worded;
+mod writes;
 
 pub use crate::checking::samopute_check;
 pub use crate::decoding::samopute_decode;
 pub use crate::decoding::samopute_decode_pgn;
 pub use crate::decoding::samopute_version;
+pub use crate::encoding::samopute_encode;
+pub use crate::encoding::samopute_encode_pgn;
 pub use crate::scaling::samopute_raw_of;
 pub use crate::scaling::samopute_scale;
 

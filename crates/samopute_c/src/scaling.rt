@@ -2,11 +2,11 @@
 ghost use mathlib.Core.Path.{_≡_};
 ghost use mathlib.Core.List.{[], _∷_};
 ghost use Rattle.numbers.specs.Scaling.{scaleOf};
-ghost use Rattle.numbers.specs.Conversions.{rawOf};
 ghost use Rattle.numbers.specs.Words.{codeOf};
-ghost use Rattle.samopute_c.specs.Values.{fieldOf, valueOf, scaleCells, rawStatus, rawCells};
-use crate::values::field_of;
-use crate::values::value_of;
+ghost use Rattle.offers.specs.Records.{offerOf};
+ghost use Rattle.samopute_c.specs.Values.{fieldOf, scaleCells, rawOffered, rawStatus, rawCells};
+use crate::worded::field_of;
+use crate::worded::raw_of;
 use numbers::RawOf;
 
 #[no_mangle]
@@ -48,10 +48,10 @@ pub extern "C" fn samopute_raw_of(
     value: u64,
     answer: &mut [u64; 3],
 ) -> u32
-    ensures { λ r. ⌜ (r ≡ rawStatus (rawOf (fieldOf kind width «is_signed» mark resolution) (valueOf «value_kind» value))) × (now (answer .exit) ≡ rawCells (rawOf (fieldOf kind width «is_signed» mark resolution) (valueOf «value_kind» value))) ⌝ }
+    ensures { λ r. ⌜ (r ≡ rawStatus (rawOffered (fieldOf kind width «is_signed» mark resolution) (offerOf «value_kind» value))) × (now (answer .exit) ≡ rawCells (rawOffered (fieldOf kind width «is_signed» mark resolution) (offerOf «value_kind» value))) ⌝ }
 {
     let f = field_of(kind, width, is_signed, mark, resolution);
-    match numbers::number_to_raw(f, value_of(value_kind, value)) {
+    match raw_of(f, offers::offer_of(value_kind, value)) {
         RawOf::Raw(raw) => tell_raw(answer, raw, 0),
         RawOf::OutOfRange => tell_raw(answer, 0, 10),
         RawOf::WrongKind => tell_raw(answer, 0, 11),

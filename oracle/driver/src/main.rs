@@ -14,6 +14,7 @@ mod sample;
 mod sides;
 mod stand_ins;
 mod tables;
+mod writings;
 
 use frames::rust::row;
 use readings::boundary::compare::{self as boundary, FULL, QUICK};
@@ -21,17 +22,21 @@ use readings::lines::{Side, answer_input};
 use readings::program::Program;
 use report::Report;
 use std::process::ExitCode;
+use writings::compare as writing;
+use writings::lines as written;
 
 const USAGE: &str = "usage: driver compare [--quick] | compare-numbers [--quick] \
                      | compare-tables [--quick] \
                      | compare-readings [--quick] [--program PATH] \
                      | compare-boundary [--quick | --count DECODES] \
+                     | compare-writings [--quick | --count ENCODES] \
                      | sample --cases | sample --answers \
                      | sample-numbers --cases | sample-numbers --answers \
                      | sample-readings --cases | sample-readings --answers \
                      | sample-frames --cases | sample-frames --answers \
                      | million-frames | print-frames [--by-digits | --by-model] \
                      | answer-readings [--stand-ins | --rust] \
+                     | answer-writings [--ours | --stand-ins | --rust] \
                      | bench | bench-tables | bench-readings [--payloads COUNT]";
 
 fn main() -> ExitCode {
@@ -54,9 +59,18 @@ fn main() -> ExitCode {
         ["compare-boundary", "--count", count] if is_count(count) => {
             compare_boundary(count.parse().unwrap_or(0))
         }
+        ["compare-writings"] => compare_writings(writing::FULL),
+        ["compare-writings", "--quick"] => compare_writings(writing::QUICK),
+        ["compare-writings", "--count", count] if is_count(count) => {
+            compare_writings(count.parse().unwrap_or(0))
+        }
         ["answer-readings"] => answer_input(Side::Model),
         ["answer-readings", "--stand-ins"] => answer_input(Side::Standin),
         ["answer-readings", "--rust"] => answer_input(Side::Rust),
+        ["answer-writings"] => written::answer_input(written::Side::Model),
+        ["answer-writings", "--ours"] => written::answer_input(written::Side::Ours),
+        ["answer-writings", "--stand-ins"] => written::answer_input(written::Side::Standin),
+        ["answer-writings", "--rust"] => written::answer_input(written::Side::Rust),
         ["sample", "--cases"] => {
             sample::print_cases();
             true
@@ -134,6 +148,15 @@ fn compare_all(quick: bool) -> bool {
     stand_ins::run(&mut report);
     tables::compare::run(quick, &mut report);
     compare_payloads(quick, None, &mut report);
+    let encodes = if quick { writing::QUICK } else { writing::FULL };
+    writing::run(encodes, &mut report);
+    report.close()
+}
+
+/// True if no test failed. Values are written through the C interface, so many times or some more.
+fn compare_writings(encodes: usize) -> bool {
+    let mut report = Report::default();
+    writing::run(encodes, &mut report);
     report.close()
 }
 

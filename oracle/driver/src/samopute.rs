@@ -274,3 +274,80 @@ pub fn decode_pgn(
         )
     }
 }
+
+/// What an encode fills in: the bytes used, and what the refusal carries.
+pub type Encoded = [u64; 4];
+
+mod encode_c {
+    unsafe extern "C" {
+        pub fn samopute_encode(
+            words: *const u64,
+            word_count: usize,
+            values: *const u8,
+            values_length: usize,
+            text: *const u8,
+            text_length: usize,
+            payload: *mut u8,
+            payload_length: usize,
+            answer: *mut super::Encoded,
+        ) -> u32;
+
+        pub fn samopute_encode_pgn(
+            pgn: u32,
+            values: *const u8,
+            values_length: usize,
+            text: *const u8,
+            text_length: usize,
+            payload: *mut u8,
+            payload_length: usize,
+            answer: *mut super::Encoded,
+        ) -> u32;
+    }
+}
+
+// SAFETY, for both encodes: as above, and `answer` has room for four numbers.
+
+/// 0, or the refusal. The values are records of 24 bytes.
+pub fn encode(
+    words: &[u64],
+    values: &[u8],
+    text: &[u8],
+    payload: &mut [u8],
+    answer: &mut Encoded,
+) -> u32 {
+    unsafe {
+        encode_c::samopute_encode(
+            words.as_ptr(),
+            words.len(),
+            values.as_ptr(),
+            values.len(),
+            text.as_ptr(),
+            text.len(),
+            payload.as_mut_ptr(),
+            payload.len(),
+            answer,
+        )
+    }
+}
+
+/// The same by a built-in table; 15 if there is none for the PGN.
+pub fn encode_pgn(
+    pgn: u32,
+    values: &[u8],
+    text: &[u8],
+    payload: &mut [u8],
+    answer: &mut Encoded,
+) -> u32 {
+    unsafe {
+        encode_c::samopute_encode_pgn(
+            pgn,
+            values.as_ptr(),
+            values.len(),
+            text.as_ptr(),
+            text.len(),
+            payload.as_mut_ptr(),
+            payload.len(),
+            answer,
+        )
+    }
+}

@@ -1,9 +1,10 @@
 //! Document 01's "Bit calls", a bit at a time, over every input: any width, any cursor, any length.
 //! It answers where the Rust cannot. Sums are made in `u128`, where none can overflow. Numbers, tables
-//! and the reading of payloads are in modules of their own.
+//! and the reading and writing of payloads are in modules of their own.
 pub mod numbers;
 pub mod reading;
 pub mod tables;
+pub mod writing;
 
 /// The longest buffer that a bit call takes, in bytes.
 pub const BUFFER_MAX: usize = 65_536;

@@ -367,11 +367,11 @@ fn is_available(field: &Field, content: Content, payload: &[u8]) -> bool {
 }
 
 /// Rule c gives a width to every kind but StringLz and StringLau.
-fn width_of(field: &Field) -> u32 {
+pub(crate) fn width_of(field: &Field) -> u32 {
     field.width.expect("rule c")
 }
 
-fn number_field(field: &Field) -> numbers::Field {
+pub(crate) fn number_field(field: &Field) -> numbers::Field {
     numbers::Field {
         kind: field.kind,
         width: width_of(field),

@@ -105,7 +105,7 @@ macro_rules! types_of {
             }
         }
 
-        fn to_rust(value: Value) -> PgnValue {
+        pub fn to_rust(value: Value) -> PgnValue {
             let bits = value.bits;
             match value.kind {
                 ValueKind::U64 => PgnValue::U64(bits),

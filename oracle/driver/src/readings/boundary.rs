@@ -3,6 +3,6 @@
 mod by_hand;
 mod call;
 pub mod compare;
-mod lent;
+pub mod lent;
 pub mod records;
-mod unknown;
+pub mod unknown;

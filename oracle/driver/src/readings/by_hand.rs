@@ -55,7 +55,7 @@ pub fn with(room: u64, padding: usize, table: Table, payload: &str, wanted: &[&s
 }
 
 /// Bytes in hexadecimal, with spaces between some. `41*20` is a byte twenty times.
-fn bytes(text: &str) -> Vec<u8> {
+pub fn bytes(text: &str) -> Vec<u8> {
     let byte = |digits: &str| u8::from_str_radix(digits, 16).expect("two digits");
     let run = |word: &str| match word.split_once('*') {
         Some((digits, times)) => vec![byte(digits); times.parse().expect("a count")],

@@ -60,7 +60,7 @@ fn parsed(line: &str) -> Option<Case> {
     fits.then_some(case)
 }
 
-fn parsed_decimal(text: &str) -> Option<u64> {
+pub fn parsed_decimal(text: &str) -> Option<u64> {
     let digits = text.bytes().all(|byte| byte.is_ascii_digit());
     text.parse().ok().filter(|_| digits)
 }
@@ -70,7 +70,7 @@ fn is_hex(text: &str) -> bool {
         .all(|byte| matches!(byte, b'0'..=b'9' | b'A'..=b'F'))
 }
 
-fn parsed_word(text: &str) -> Option<u64> {
+pub fn parsed_word(text: &str) -> Option<u64> {
     let fits = is_hex(text) && text.len() <= DIGITS_MAX;
     let is_short = text == "0" || !text.starts_with('0');
     u64::from_str_radix(text, 16)
@@ -78,7 +78,7 @@ fn parsed_word(text: &str) -> Option<u64> {
         .filter(|_| fits && is_short)
 }
 
-fn parsed_bytes(text: &str) -> Option<Vec<u8>> {
+pub fn parsed_bytes(text: &str) -> Option<Vec<u8>> {
     if text == "-" {
         return Some(Vec::new());
     }

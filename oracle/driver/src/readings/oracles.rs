@@ -7,12 +7,23 @@ use model::tables::{Field, Table, WIDTH_MAX};
 /// A number for refusals that no accepted table should meet.
 const OTHER_REFUSAL: u32 = 99;
 
-/// The names of the sets, by their numbers.
-const SETS: [&str; 4] = ["0", "1", "2", "3"];
+/// The names of fields and sets: two digits of these for each number.
+const NAMES: &str = "0001020304050607080910111213141516171819202122232425262728293031\
+                     3233343536373839404142434445464748495051525354555657585960616263";
+
+/// A field or a set by its number. Refused tables that are asked have few fields.
+pub fn name_of(number: usize) -> &'static str {
+    &NAMES[2 * number..][..2]
+}
+
+pub fn number_of(name: &str) -> usize {
+    name.parse().expect("a name is a number")
+}
 
 macro_rules! reading_of {
     ($krate:ident, $numbers:ident) => {
-        use super::{Field, OTHER_REFUSAL, Refused, SETS, Seen, Table, Told, What, number_field};
+        use super::{Field, OTHER_REFUSAL, Refused, Seen, Table, Told, What};
+        use super::{name_of, number_field, number_of};
         use crate::numbers::oracles::$numbers::{descriptor, from_rust};
         use ::$krate::core::{
             Availability, FieldDescriptor, FieldKind, PgnDescriptor, PgnValue, RepeatingFieldSet,
@@ -20,22 +31,23 @@ macro_rules! reading_of {
         use ::$krate::error::{BitReaderError, DeserializationError};
         use ::$krate::infra::codec::engine::{FieldReading, for_each_field};
 
-        fn described(field: &Field) -> FieldDescriptor {
+        fn described((number, field): (usize, &Field)) -> FieldDescriptor {
             FieldDescriptor {
+                id: name_of(number),
                 bits_length: field.width,
                 ..descriptor(&number_field(field))
             }
         }
 
         /// A table for the rest of the run: the Rust wants it that long.
-        fn leaked(table: &Table) -> &'static PgnDescriptor {
-            let fields: Vec<FieldDescriptor> = table.fields.iter().map(described).collect();
+        pub fn leaked(table: &Table) -> &'static PgnDescriptor {
+            let fields = table.fields.iter().enumerate().map(described);
             let sets = table
                 .sets
                 .iter()
-                .zip(SETS)
-                .map(|(set, array_id)| RepeatingFieldSet {
-                    array_id,
+                .enumerate()
+                .map(|(number, set)| RepeatingFieldSet {
+                    array_id: name_of(number),
                     count_field_index: Some(set.counter),
                     start_field_index: set.start,
                     size: set.size,
@@ -52,7 +64,7 @@ macro_rules! reading_of {
                 field_count: None,
                 trans_interval: None,
                 trans_irregular: None,
-                fields: fields.leak(),
+                fields: fields.collect::<Vec<_>>().leak(),
                 repeating_field_sets: sets.collect::<Vec<_>>().leak(),
             }))
         }
@@ -136,8 +148,8 @@ macro_rules! reading_of {
                     count,
                     max,
                 } => {
-                    let set = SETS.iter().position(|&name| name == array_id);
-                    (5, vec![set.unwrap() as u64, count as u64, max as u64])
+                    let set = number_of(array_id);
+                    (5, vec![set as u64, count as u64, max as u64])
                 }
                 _ => (OTHER_REFUSAL, vec![]),
             };

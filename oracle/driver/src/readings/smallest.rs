@@ -7,10 +7,10 @@ use model::reading::PADDING;
 use model::tables::{self, Table};
 
 /// The steps that are taken at most.
-const STEPS: usize = 2000;
+pub const STEPS: usize = 2000;
 
 /// A head can claim more fields than there are words for. Fields are only taken out of fewer.
-const FEW: usize = 2 * tables::FIELDS_MAX;
+pub const FEW: usize = 2 * tables::FIELDS_MAX;
 
 /// A case that no single step makes smaller. `find` picks one of several smaller cases that still shows it.
 pub fn shrink(case: &Case, find: &mut dyn FnMut(&[Case]) -> Option<usize>) -> Case {
@@ -104,7 +104,7 @@ fn without_bits(payload: &[u8], start: usize, bits: usize) -> Vec<u8> {
 }
 
 /// The table with a field, a set or its lengths taken out; what says nothing in its words is gone too.
-fn smaller_tables(table: Table) -> impl Iterator<Item = Table> {
+pub fn smaller_tables(table: Table) -> impl Iterator<Item = Table> {
     let (fields, sets) = (table.fields.len(), table.sets.len());
     let bare = Table {
         length: None,
@@ -124,7 +124,7 @@ fn smaller_tables(table: Table) -> impl Iterator<Item = Table> {
 }
 
 /// The sets go on meaning the same fields.
-fn without_field(table: &Table, field: usize) -> Table {
+pub fn without_field(table: &Table, field: usize) -> Table {
     let mut table = table.clone();
     table.fields.remove(field);
     for set in &mut table.sets {
@@ -137,7 +137,7 @@ fn without_field(table: &Table, field: usize) -> Table {
     table
 }
 
-fn shorter(payload: &[u8]) -> impl Iterator<Item = Vec<u8>> {
+pub fn shorter(payload: &[u8]) -> impl Iterator<Item = Vec<u8>> {
     let half = payload[..payload.len() / 2].to_vec();
     let without = (0..payload.len()).rev().map(|at| {
         let mut payload = payload.to_vec();
@@ -148,7 +148,7 @@ fn shorter(payload: &[u8]) -> impl Iterator<Item = Vec<u8>> {
 }
 
 /// The words with a bit cleared, or with a kind, a width or a number of the head or of a set made less.
-fn smaller_words(words: &[u64]) -> impl Iterator<Item = Vec<u64>> {
+pub fn smaller_words(words: &[u64]) -> impl Iterator<Item = Vec<u64>> {
     let parts = [[KIND, WIDTH].as_slice(), QUARTERS.as_slice()].concat();
     let places = parts.into_iter();
     let places = places.flat_map(|part| (0..words.len()).map(move |at| (at, part)));
@@ -163,7 +163,7 @@ fn smaller_words(words: &[u64]) -> impl Iterator<Item = Vec<u64>> {
     cleared(words).chain(less)
 }
 
-fn smaller_bytes(payload: &[u8]) -> impl Iterator<Item = Vec<u8>> {
+pub fn smaller_bytes(payload: &[u8]) -> impl Iterator<Item = Vec<u8>> {
     (0..payload.len()).flat_map(|at| {
         let byte = payload[at];
         [0, byte / 2, byte.saturating_sub(1)].map(|byte| {

@@ -1,31 +1,31 @@
--- `samopute_c::scaling::samopute_raw_of` meets its contract: by the answer of `number_to_raw`. Assumes nothing.
+-- `samopute_c::scaling::samopute_raw_of` meets its contract: by the answer of `raw_of`. Assumes nothing.
 use mathlib.Core.Path.{_≡_, sym, ap, ap₂, _∙_}
 use mathlib.Core.List.{List}
 use Prim.Native.Nat.{ℕ}
 use Rattle.numbers.specs.declared.RawOf.{RawOf}
-use Rattle.numbers.specs.Conversions.{rawOf}
-use Rattle.samopute_c.specs.Values.{fieldOf, valueOf, rawStatus, rawCells}
+use Rattle.offers.specs.Records.{offerOf}
+use Rattle.samopute_c.specs.Values.{fieldOf, rawOffered, rawStatus, rawCells}
 use borrow.Author.Needs.{needs}
 use Rattle.samopute_c.proofs.scaling.samopute_raw_of.Statement.{statement}
 use Rattle.samopute_c.proofs.scaling.samopute_raw_of.Tie as tie
 
 -- the answer is that of the field and the value that the numbers describe
-as-law : (c : tie.After-number-to-raw) {o : RawOf} {r : ℕ} {l : List ℕ} → c .number-to-raw .result ≡ o → (r ≡ rawStatus o) × (l ≡ rawCells o)
+as-law : (c : tie.After-raw-of) {o : RawOf} {r : ℕ} {l : List ℕ} → c .raw-of .result ≡ o → (r ≡ rawStatus o) × (l ≡ rawCells o)
     → let a = c .before .before .before .args in
-    let q = rawOf (fieldOf (a .kind) (a .width) (a .is-signed) (a .mark) (a .resolution)) (valueOf (a .value-kind) (a .value)) in
+    let q = rawOffered (fieldOf (a .kind) (a .width) (a .is-signed) (a .mark) (a .resolution)) (offerOf (a .value-kind) (a .value)) in
     (r ≡ rawStatus q) × (l ≡ rawCells q)
 as-law c {o} e p =
-    let same = sym e ∙ c .number-to-raw .ensures ∙ ap₂ rawOf (c .before .before .field-of .ensures) (c .before .value-of .ensures) in
+    let same = sym e ∙ c .raw-of .ensures ∙ ap₂ rawOffered (c .before .before .field-of .ensures) (c .before .offer-of .ensures) in
     (p .0 ∙ ap rawStatus same, p .1 ∙ ap rawCells same)
 
 field-of-requires : tie.Need-field-of-requires
 field-of-requires c κs = search needs
 
-value-of-requires : tie.Need-value-of-requires
-value-of-requires c κs = search needs
+offer-of-requires : tie.Need-offer-of-requires
+offer-of-requires c κs = search needs
 
-number-to-raw-requires : tie.Need-number-to-raw-requires
-number-to-raw-requires c κs = search needs
+raw-of-requires : tie.Need-raw-of-requires
+raw-of-requires c κs = search needs
 
 enum-known-raw : tie.Need-enum-known-raw
 enum-known-raw c = search needs
@@ -59,8 +59,8 @@ samopute-raw-of-spec =
     tie.close
     (tie.spec
     field-of-requires
-    value-of-requires
-    number-to-raw-requires
+    offer-of-requires
+    raw-of-requires
     enum-known-raw
     tell-raw-requires
     enum-told

@@ -13,15 +13,15 @@ use model::numbers::Kind;
 use model::reading::PADDING;
 use model::tables::Table;
 
-/// Version 1.0.
-const VERSION: u32 = 1 << 16;
+/// Version 1.1.
+const VERSION: u32 = 1 << 16 | 1;
 
 const NONE: u64 = u64::MAX;
 
 pub fn run(report: &mut Report) {
     let version = samopute::version();
     let outcome = match version {
-        VERSION => Ok("1.0".to_string()),
+        VERSION => Ok("1.1".to_string()),
         _ => Err(format!("{version}, where {VERSION} is wanted")),
     };
     report.line("the version of the interface", outcome);

@@ -246,16 +246,11 @@ fn ask(call: Call, cases: &[Case]) -> Vec<Box<dyn Given>> {
     let taken = |case: &Case| -> Box<dyn Given> {
         let table = tables::read(&case.words);
         match call {
-            Call::Pgn(pgn) if !is_table_of(pgn, &table) => {
+            Call::Pgn(pgn) if !unknown::is_table_of(pgn, &table) => {
                 Box::new(answer::model(&table, case).0.text())
             }
             _ => Box::new(Taken::new(case, call)),
         }
     };
     cases.iter().map(taken).collect()
-}
-
-fn is_table_of(pgn: u32, table: &Table) -> bool {
-    let mut known = unknown::BUILT_IN.into_iter().zip(built_in::all());
-    known.any(|(known, of)| known == pgn && of == *table)
 }

@@ -19,7 +19,7 @@ pub struct Lent {
 }
 
 impl Lent {
-    fn new(length: usize, random: &mut Random) -> Lent {
+    pub fn new(length: usize, random: &mut Random) -> Lent {
         let start = AROUND + random.up_to(7);
         let mut all = random.bytes(start + length + AROUND);
         for byte in all.iter_mut().filter(|byte| **byte == FILL) {

@@ -3,10 +3,18 @@ use super::call::{Call, Taken};
 use crate::random::Random;
 use crate::readings::case::Case;
 use crate::readings::sides::Given;
+use crate::tables::built_in;
 use model::reading::PADDING;
+use model::tables::Table;
 
 /// The PGNs that are built in.
 pub const BUILT_IN: [u32; 4] = [129_025, 129_026, 129_029, 130_900];
+
+/// Whether the table is the one that is built in for the PGN.
+pub fn is_table_of(pgn: u32, table: &Table) -> bool {
+    let mut known = BUILT_IN.into_iter().zip(built_in::all());
+    known.any(|(known, of)| known == pgn && of == *table)
+}
 
 pub fn outcome(count: usize, random: &mut Random) -> Result<String, String> {
     for _ in 0..count {
@@ -22,7 +30,7 @@ pub fn outcome(count: usize, random: &mut Random) -> Result<String, String> {
 }
 
 /// Beside one that is built in, one of its bits flipped, one with more bits above it, or any.
-fn any_unknown(random: &mut Random) -> u32 {
+pub fn any_unknown(random: &mut Random) -> u32 {
     loop {
         let known = random.among(&BUILT_IN);
         let pgn = match random.up_to(4) {

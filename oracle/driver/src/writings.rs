@@ -1,0 +1,28 @@
+//! Writings: values written by a table, through the C interface of the library.
+mod answer;
+mod by_hand;
+mod call;
+mod case;
+mod cases;
+pub mod compare;
+mod coverage;
+mod differences;
+mod exhaustive;
+mod faults;
+mod kinds;
+mod laid;
+mod lent;
+pub mod lines;
+mod made;
+mod oracles;
+mod read_back;
+mod records;
+mod rust_only;
+mod sides;
+mod smallest;
+mod test;
+mod unknown;
+mod values;
+mod worked_records;
+mod worked_refusals;
+mod worked_walks;
