@@ -35,7 +35,7 @@ printf 'read_u64 18446744073709551615 1 FF\nread_u64 18446744073709551616 1 FF\n
 printf 'F 2 1 0\nF 14\n' >"$work/wanted"
 same "the largest cursor, and one over it"
 
-for program in bitcalls numbercalls tablecalls samopute readcalls; do
+for program in bitcalls numbercalls tablecalls samopute readcalls compose; do
     : >"$work/in"
     : >"$work/wanted"
     same "no input, no output"
@@ -124,6 +124,81 @@ fi
 for _ in $(seq 20); do cat "$work/one"; done >"$work/in"
 for _ in $(seq 20); do cat "$work/lines"; done >"$work/wanted"
 same "cases of more lines than the output buffer holds"
+
+program=compose
+printf '01F802 u42 u0 f1.5708 f391.04\r\n01F802 u42 u0 f1.5708 f391.04' >"$work/in"
+printf 'F 14\n01F8022AFC5C3DC098FFFF\n' >"$work/wanted"
+same "a carriage return is no digit, and the last line may lack its newline"
+
+ones() { head -c "$1" /dev/zero | tr '\0' F; }
+{ printf 'T 01,C 223 t'; digits 8180; echo; printf 'T 001,C 223 t'; digits 8180; echo; echo 'T 1,800 1 u1'; } >"$work/in"
+{ printf 'F 13 0\nD '; ones 446; printf '\nF 14\nE 1\nD 01\n'; } >"$work/wanted"
+same "lines of 8,192 bytes and of one more"
+
+texts() { for _ in $(seq "$1"); do printf ' t'; done; }
+{ printf 'T 1,C 3'; texts 2000; echo; printf 'T 1,C 3'; texts 2001; echo; } >"$work/in"
+printf 'F 12 1\nD 0000FF\nF 14\n' >"$work/wanted"
+same "2,000 values and one more"
+
+words() { printf '1,800'; for _ in $(seq "$1"); do printf ',0'; done; }
+{ echo "T $(words 198) 1 u5"; echo "T $(words 199) 1 u5"; } >"$work/in"
+printf 'E 1\nD 05\nF 14\n' >"$work/wanted"
+same "200 words and one more"
+
+# What was left of an earlier line's values and texts does not show in the next.
+printf 'T 2,D,D 8 eFF:414243 e01:44\nT 2,D,800 8 t u1\nT 1,D 8 e02:45\nT 1,200B 4 t\n' >"$work/in"
+printf 'E 8\nD 05FF414243030144\nE 2\nD 0101FFFFFFFFFFFF\nE 3\nD 030245FFFFFFFFFF\nE 4\nD FFFFFFFF\n' >"$work/wanted"
+same "each line starts clean"
+
+# What compose writes samopute reads: 4,096 courses and speeds, whose raws are known, and a position with two stations.
+LC_ALL=C awk 'BEGIN { for (i = 0; i < 4096; i++) printf "01F802 u%d u%d f%.4f f%.2f\n", i % 256, i % 4, (i * 16 + 15) / 10000, (65535 - i * 16) / 100 }' |
+    target/bin/compose >"$work/in"
+LC_ALL=C awk 'function n(raw, none) { return raw == none ? "N" : "A" }
+    BEGIN { for (i = 0; i < 4096; i++) {
+        print "P 01F802 8"
+        printf "R 0 - 0 8 %s %X\nR 1 - 8 2 %s %X\n", n(i % 256, 255), i % 256, n(i % 4, 3), i % 4
+        printf "R 3 - 16 16 %s %X\nR 4 - 32 16 %s %X\nE 64\n", n(i * 16 + 15, 65535), i * 16 + 15, n(65535 - i * 16, 65535), 65535 - i * 16
+    } }' >"$work/wanted"
+program=samopute
+same "frames that compose has made: 4,096 of 129026"
+echo '01F805 u1 u20000 f43200 f0 f0 f0 u0 u1 u1 u12 f1.2 f-0.01 f0 u2 u3 u2748 f5 u1 u0 f655.35' | target/bin/compose >"$work/in"
+cat >"$work/wanted" <<'END'
+P 01F805 51
+R 0 - 0 8 A 1
+R 1 - 8 16 A 4E20
+R 2 - 24 32 A 19BFCC0B
+R 3 - 56 64 A 0
+R 4 - 120 64 A 0
+R 5 - 184 64 A 0
+R 6 - 248 4 A 0
+R 7 - 252 4 A 1
+R 8 - 256 2 A 1
+R 10 - 264 8 A C
+R 11 - 272 16 A 78
+R 12 - 288 16 A FFFF
+R 13 - 304 32 A 0
+R 14 - 336 8 A 2
+R 15 0 344 4 A 3
+R 16 0 348 12 A ABC
+R 17 0 360 16 A 1F4
+R 15 1 376 4 A 1
+R 16 1 380 12 A 0
+R 17 1 392 16 N FFFF
+E 408
+END
+same "a frame that compose has made: 129029 with two stations"
+
+# 7,600 m/s do not fit 16 bits at 0.01: the value is refused, and the buffer says that the field is not available.
+fault='u42 u0 f1.5708 f7600'
+program=compose
+{ echo "01F802 $fault"; echo "T 6,800,202,60F,38D1B71702001000,3C23D70A02001000,100F 8 $fault"; } >"$work/in"
+printf 'F 10 4\nF 10 4\nD 2AFC5C3DFFFFFFFF\n' >"$work/wanted"
+same "7,600 m/s in 16 bits at 0.01"
+target/bin/compose <"$work/in" | sed -n 's/^D /01F802/p' >"$work/frame"
+mv "$work/frame" "$work/in"
+printf 'P 01F802 8\nR 0 - 0 8 A 2A\nR 1 - 8 2 A 0\nR 3 - 16 16 A 3D5C\nR 4 - 32 16 N FFFF\nE 64\n' >"$work/wanted"
+program=samopute
+same "the buffer after 7,600 m/s: the field is not available"
 
 echo "$passed passed, $failed failed"
 [ "$failed" -eq 0 ]

@@ -16,8 +16,11 @@ use textio::put_number;
 use textio::put_text;
 use walking::Element;
 
+// The number of the refusal of a table.
+const TABLE_REFUSED: u32 = 8;
+
 // A PGN in its six digits.
-fn put_pgn(out: &mut [u8], at: usize, pgn: u32) -> usize
+pub fn put_pgn(out: &mut [u8], at: usize, pgn: u32) -> usize
     requires { ⌜ at + 513 ≤ length (now out) ⌝ }
     ensures { λ r. ⌜ r ≤ at + 513 ⌝ }
 {
@@ -28,7 +31,7 @@ fn put_pgn(out: &mut [u8], at: usize, pgn: u32) -> usize
 }
 
 // No message has the PGN: 15.
-pub(crate) fn put_unknown(out: &mut [u8], at: usize, pgn: u32) -> usize
+pub fn put_unknown(out: &mut [u8], at: usize, pgn: u32) -> usize
     requires { ⌜ at + 518 ≤ length (now out) ⌝ }
     ensures { λ r. ⌜ r ≤ at + 518 ⌝ }
 {
@@ -137,46 +140,61 @@ pub(crate) fn put_end(out: &mut [u8], at: usize, end: usize) -> usize
     put_number(out, a, end)
 }
 
-// What a refusal carries at place i, if it carries that many values.
-fn put_carried(out: &mut [u8], at: usize, e: DecodeRefusal, i: usize) -> usize
+// The value at place i of the `count` that a refusal carries, if there are so many.
+fn put_carried(out: &mut [u8], at: usize, i: usize, count: usize, value: usize) -> usize
     requires { ⌜ at + 21 ≤ length (now out) ⌝ }
     ensures { λ r. ⌜ r ≤ at + 21 ⌝ }
 {
-    if i < e.carried_count() {
-        return put_number(out, at, e.carried(i));
+    if i < count {
+        return put_number(out, at, value);
     }
     at
 }
 
-// The first value that a refusal carries. Refusal 8 carries a rule, which has a letter.
-fn put_first_carried(out: &mut [u8], at: usize, e: DecodeRefusal) -> usize
+// The first of them. Refusal 8 carries a rule there, which has a letter, a to h.
+fn put_first_carried(out: &mut [u8], at: usize, number: u32, count: usize, value: usize) -> usize
     requires { ⌜ at + 21 ≤ length (now out) ⌝ }
     ensures { λ r. ⌜ r ≤ at + 21 ⌝ }
 {
-    match e {
-        DecodeRefusal::TableRefused { rule, index: _ } => {
-            let a = put(out, at, b' ');
-            put(out, a, letter(rule))
-        }
-        _ => put_carried(out, at, e, 0),
+    if number == TABLE_REFUSED {
+        let a = put(out, at, b' ');
+        return put(out, a, (96 + value % 16) as u8);
     }
+    put_carried(out, at, 0, count, value)
 }
 
-// The rule's letter, a to h.
-fn letter(rule: tables::TableRule) -> u8 {
-    let place = rule.letter();
-    (96 + place % 16) as u8
-}
-
-// The decode was refused: F, its number and what it carries. None carries more than three values.
-pub fn put_refusal(out: &mut [u8], at: usize, e: DecodeRefusal) -> usize
+// A refusal: F, its number and what it carries, at most three values.
+pub fn put_refused(
+    out: &mut [u8],
+    at: usize,
+    number: u32,
+    count: usize,
+    first: usize,
+    second: usize,
+    third: usize,
+) -> usize
     requires { ⌜ at + 85 ≤ length (now out) ⌝ }
     ensures { λ r. ⌜ r ≤ at + 85 ⌝ }
 {
     let a = put(out, at, b'F');
-    let number = e.number();
     let b = put_number(out, a, number as usize);
-    let c = put_first_carried(out, b, e);
-    let d = put_carried(out, c, e, 1);
-    put_carried(out, d, e, 2)
+    let c = put_first_carried(out, b, number, count, first);
+    let d = put_carried(out, c, 1, count, second);
+    put_carried(out, d, 2, count, third)
+}
+
+// The decode was refused.
+pub fn put_refusal(out: &mut [u8], at: usize, e: DecodeRefusal) -> usize
+    requires { ⌜ at + 85 ≤ length (now out) ⌝ }
+    ensures { λ r. ⌜ r ≤ at + 85 ⌝ }
+{
+    put_refused(
+        out,
+        at,
+        e.number(),
+        e.carried_count(),
+        e.carried(0),
+        e.carried(1),
+        e.carried(2),
+    )
 }

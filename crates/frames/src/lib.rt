@@ -13,8 +13,11 @@ mod lookup;
 mod walks;
 
 pub use crate::answers::put_head;
+pub use crate::answers::put_pgn;
 pub use crate::answers::put_place;
 pub use crate::answers::put_refusal;
+pub use crate::answers::put_refused;
+pub use crate::answers::put_unknown;
 pub use crate::digest::empty_line;
 pub use crate::digest::feed;
 pub use crate::lookup::frame_of;

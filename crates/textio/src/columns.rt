@@ -1,6 +1,6 @@
 // The fields of a line, which one space sets apart: numbers in decimal, numbers and bytes in capital
 // hexadecimal. Each reading says in `good` whether the field has its form; the rest counts only then.
-ghost use Prim.Native.Nat.{_≤_};
+ghost use Prim.Native.Nat.{_*_, _≤_};
 ghost use mathlib.Core.Path.{_≡_};
 ghost use lib.ListN.{length};
 
@@ -29,7 +29,7 @@ pub struct Run {
 }
 
 // Where the part that starts at `from` ends: at the next mark, or at the line's end.
-fn part_end(s: &[u8], from: usize, mark: u8) -> usize
+pub fn part_end(s: &[u8], from: usize, mark: u8) -> usize
     requires { ⌜ from ≤ length (now s) ⌝ }
     ensures { λ r. ⌜ (from ≤ r) × (r ≤ length (now (s .entry))) ⌝ }
 {
@@ -164,7 +164,7 @@ pub fn bytes(s: &[u8], buffer: &mut [u8]) -> Run
             len: 0,
         };
     }
-    if s.len() == 0 || s.len() % 2 != 0 {
+    if s.len() == 0 {
         return no_run();
     }
     if BUFFER_DIGITS < s.len() {
@@ -173,12 +173,17 @@ pub fn bytes(s: &[u8], buffer: &mut [u8]) -> Run
     pairs(s, buffer)
 }
 
-// Bytes of two digits each.
-fn pairs(s: &[u8], buffer: &mut [u8]) -> Run
-    requires { ⌜ (length (now s) ≤ 512) × (256 ≤ length (now buffer)) ⌝ }
-    ensures { λ r. ⌜ r .len ≤ 256 ⌝ }
+// Bytes of two digits each, at the start of a buffer that has room for them.
+pub fn pairs(s: &[u8], buffer: &mut [u8]) -> Run
+    ensures { λ r. ⌜ (r .len * 2 ≤ length (now (s .entry))) × (r .len ≤ length (now (buffer .entry))) ⌝ }
 {
     let n = s.len() / 2;
+    if s.len() % 2 != 0 {
+        return no_run();
+    }
+    if buffer.len() < n {
+        return no_run();
+    }
     let mut k = 0;
     while k < n {
         let high = digit(s[2 * k]);

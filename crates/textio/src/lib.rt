@@ -13,6 +13,8 @@ pub use crate::columns::bytes;
 pub use crate::columns::decimal;
 pub use crate::columns::field_end;
 pub use crate::columns::hex;
+pub use crate::columns::pairs;
+pub use crate::columns::part_end;
 pub use crate::columns::words;
 pub use crate::digits::put;
 pub use crate::digits::put_bytes;

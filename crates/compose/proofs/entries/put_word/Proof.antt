@@ -1,0 +1,56 @@
+-- `entries::put_word` is safe and ends. The invariant: `values` keeps its length. Assumes nothing.
+use Prim.Native.Nat.{_-_, _≤_}
+use mathlib.Core.Path.{_≡_}
+use borrow.Author.Needs.{needs}
+use lib.ListN.{length}
+use Rattle.compose.proofs.entries.put_word.Statement.{statement}
+use Rattle.compose.proofs.entries.put_word.Tie as tie
+
+abbrev Inv-loop : tie.InvT-loop
+Inv-loop values₀ at w rest₀ i₀ values rest i = (i ≤ 8) × (length values ≡ length values₀)
+
+abbrev μ-loop : tie.MeasureT-loop
+μ-loop values₀ at w rest₀ i₀ values rest i = 8 - i
+
+loop-holds : tie.Need-loop-holds Inv-loop μ-loop
+loop-holds c = search needs
+
+cast-values : tie.Need-cast-values Inv-loop μ-loop
+cast-values c = search needs
+
+add-values : tie.Need-add-values Inv-loop μ-loop
+add-values c = search needs
+
+slice-write-values : tie.Need-slice-write-values Inv-loop μ-loop
+slice-write-values c = search needs
+
+add-i : tie.Need-add-i Inv-loop μ-loop
+add-i c = search needs
+
+loop-less : tie.Need-loop-less Inv-loop μ-loop
+loop-less c = search needs
+
+loop-again : tie.Need-loop-again Inv-loop μ-loop
+loop-again c = search needs
+
+same-length : tie.Need-same-length Inv-loop μ-loop
+same-length c = search needs
+
+returns : tie.Need-returns Inv-loop μ-loop
+returns c = search needs
+
+pub put-word-spec : {M : Type 1} → statement M
+put-word-spec =
+    tie.close
+    (tie.spec
+    Inv-loop
+    μ-loop
+    loop-holds
+    cast-values
+    add-values
+    slice-write-values
+    add-i
+    loop-less
+    loop-again
+    same-length
+    returns)

@@ -1,0 +1,81 @@
+// The program that makes frames, the other way round of `samopute`. Each line of standard input is a
+// message and its values, set apart by one space:
+//
+//     PGN VALUES..                  a built-in message, by its PGN in six digits
+//     T WORDS SIZE VALUES..         any table, and a buffer of SIZE bytes
+//
+// WORDS is a table in words, as `tables` has them: 1 to 200, of 1 to 16 digits, set apart by commas.
+// SIZE is decimal, 0 to 300; the bytes of the buffer all hold A5 before the call. The values come in the
+// order of the fields that take one, at most 2,000 of them. Each is one of
+//
+//     u42                           an unsigned integer below 2^64
+//     i-42                          a signed integer of 64 bits
+//     f-0.25                        the f64 nearest to a decimal number of at most 15 digits; a point has
+//                                   digits on both sides
+//     vKIND:BITS                    the 64 bits BITS, of 1 to 16 digits, with the code KIND of a value's
+//                                   kind, 0 to 255; they need not be a value of that kind
+//     tBYTES                        text or bytes, two digits each; t alone is empty
+//     eXX:BYTES                     text, with the encoding byte XX
+//
+// KIND and the numbers after u, i and f are decimal, all other digits capital hexadecimal. The line's
+// texts, one after another, are the lent text.
+//
+// A PGN line has one line on standard output, a T line two:
+//
+//     PGN and payload, as `samopute` takes them    or F NUMBER CARRIED..
+//
+//     E USED                                       or F NUMBER CARRIED..
+//     D BYTES                                      the whole buffer after the call, '-' if it has none
+//
+// USED counts bytes. F 8 carries the rule's letter and the index.
+//
+// Promise: as that of `textio`. A line that is neither, or is over 8,192 bytes, is answered F 14 alone;
+// then a PGN that is not built in F 15 with the PGN. The last line may lack its newline.
+mod answers;
+mod decimals;
+mod entries;
+mod orders;
+mod replies;
+
+ghost use Prim.Native.Nat.{_≤_};
+ghost use mathlib.Core.Path.{_≡_};
+ghost use lib.ListN.{length};
+ghost use Rattle.textio.specs.Bounds.{Within};
+use textio::Lines;
+
+fn main() {
+    let mut input = io::large_buffer();
+    let mut line = [0u8; 8192];
+    let mut values = [0u8; entries::VALUES_BYTES];
+    let mut lent = [0u8; 4096];
+    let mut out = io::large_buffer();
+    run(&mut input, &mut line, &mut values, &mut lent, &mut out);
+}
+
+// A proved loop has to end, and nothing says that the input does. So the loop counts its turns down,
+// from a number that no run uses up.
+fn run(input: &mut [u8], line: &mut [u8], values: &mut [u8], lent: &mut [u8], out: &mut [u8])
+    requires { ⌜ (length (now input) ≡ 65536) × (length (now line) ≡ 8192) × (length (now values) ≡ 48000) × (length (now out) ≡ 65536) ⌝ }
+{
+    let mut turns = u64::MAX;
+    let mut at = textio::start();
+    while turns > 0 && at.is_open {
+        let next = textio::step(input, line, at);
+        at = answered(line, values, lent, out, next);
+        turns -= 1;
+    }
+    textio::finish(out, at);
+}
+
+// Answers the line, if it is whole.
+fn answered(line: &[u8], values: &mut [u8], lent: &mut [u8], out: &mut [u8], at: Lines) -> Lines
+    requires { ⌜ (length (now line) ≡ 8192) × (length (now values) ≡ 48000) × (length (now out) ≡ 65536) × (at .held ≤ 8192) ⌝ }
+    requires { ⌜ Within at ⌝ }
+    ensures { λ r. ⌜ (Within r) × (r .held ≤ 8192) ⌝ }
+{
+    if !at.is_whole {
+        return at;
+    }
+    let held = at.held;
+    replies::answer_line(&line[0..held], values, lent, out, at)
+}
