@@ -202,10 +202,12 @@ uint32_t samopute_decode_pgn(uint32_t pgn, const uint8_t *payload, size_t payloa
  * answer[1], answer[2], answer[3]
  *            what the refusal carries, then 0
  *
- * Nothing is ever cut, clamped or guessed: a value that its field cannot hold is refusal 10, one of another kind, or
- * whose 64 bits are no value of its kind, 11. Refusals 7 and 8 (and 15) leave the payload as it was. Any other leaves
- * it all ones but for the fields wholly written before: the field that is named has no bit in it. A payload of a
- * refused call is not to be sent: ones in an unsigned number say "not available", but in a signed one -1.
+ * A value that its field cannot hold is refusal 10, one of another kind, or whose 64 bits are no value of its kind, 11:
+ * nothing is cut or guessed, and clamped in one case only, in a scaled field over 53 bits, where a result at most
+ * 2^(bits - 53) beyond a limit becomes that limit. Refusal 2 counts bits, asked those of the whole field; 3 carries the
+ * bit at which the bytes would stand. Refusals 7 and 8 (and 15) leave the payload as it was. Any other leaves it all
+ * ones but for the fields wholly written before: the faulty field leaves no bit. A payload of a refused call is not to
+ * be sent: ones in an unsigned number of 2 bits or more say "not available", but in a signed one -1.
  */
 uint32_t samopute_encode(const uint64_t *words, size_t word_count, const uint8_t *values, size_t values_length,
                          const uint8_t *text, size_t text_length, uint8_t *payload, size_t payload_length,
@@ -449,7 +451,10 @@ static inline struct samopute_value samopute_value_of_f32(float number)
     return samopute_value_of(SAMOPUTE_VALUE_F32, samopute_resolution(number), 0);
 }
 
-/* `length` bytes of the lent text, from byte `first` on: a text or a Binary. An empty StringLau is absent. */
+/*
+ * `length` bytes of the lent text, from byte `first` on: a text or a Binary. Of length 0 it is an absent StringLau; one
+ * with text needs samopute_value_of_lau.
+ */
 static inline struct samopute_value samopute_value_of_bytes(uint64_t first, uint64_t length)
 {
     return samopute_value_of(SAMOPUTE_VALUE_BYTES, first, length);

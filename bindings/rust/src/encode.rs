@@ -111,7 +111,7 @@ impl<const N: usize> Encoder<N> {
     /// Writes the values by a table, into all of `payload`: every bit that no field puts is 1. Answers the bytes used.
     ///
     /// Refusals 7 and 8 leave the payload as it was. Any other leaves it all ones but for the fields wholly written before:
-    /// the field that is named has no bit in it. Such a payload is not to be sent.
+    /// the faulty field leaves no bit. Such a payload is not to be sent.
     pub fn encode(&self, table: Table<'_>, payload: &mut [u8]) -> Result<usize, Refusal> {
         let mut answer = [0; 4];
         let status = sys::encode(

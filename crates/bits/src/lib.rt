@@ -13,7 +13,7 @@ mod parts;
 mod reads;
 mod refusals;
 mod runs;
-mod writing;
+mod writes;
 
 pub use crate::limits::room_for;
 

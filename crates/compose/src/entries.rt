@@ -1,4 +1,4 @@
-// The values of a line: each a record of 24 bytes, as `offers` reads them, and its text in the lent text.
+// The values of a line: each a record of 24 bytes, as `offers` reads them, its text in the lent text.
 ghost use Prim.Native.Nat.{_+_, _≤_};
 ghost use mathlib.Core.Path.{_≡_};
 ghost use lib.ListN.{length};
@@ -117,7 +117,7 @@ fn encoded(s: &[u8], lent: &mut [u8], used: usize) -> Entry
     text(&s[3..], 1, byte.value as u8, lent, used)
 }
 
-// A value by its letter. The first bytes of the lent text are used.
+// A value by its letter. So many bytes of the lent text are used before it.
 fn entry_of(s: &[u8], lent: &mut [u8], used: usize) -> Entry
     requires { ⌜ used ≤ length (now lent) ⌝ }
     ensures { λ r. ⌜ used + r .len ≤ length (now (lent .entry)) ⌝ }
@@ -172,7 +172,7 @@ fn none_listed() -> Listed
     }
 }
 
-// The values of a line from `from` on, where a space stands before each or the line ends.
+// The values of a line from `from` on, where a space stands before the next, or the line ends.
 pub(crate) fn list_values(s: &[u8], from: usize, values: &mut [u8], lent: &mut [u8]) -> Listed
     requires { ⌜ (from ≤ length (now s)) × (length (now values) ≡ 48000) ⌝ }
     ensures { λ r. ⌜ (r .bytes ≤ 48000) × (r .text ≤ length (now (lent .entry))) ⌝ }

@@ -5,15 +5,15 @@
 //     T WORDS SIZE VALUES..         any table, and a buffer of SIZE bytes
 //
 // WORDS is a table in words, as `tables` has them: 1 to 200, of 1 to 16 digits, set apart by commas.
-// SIZE is decimal, 0 to 300; the bytes of the buffer all hold A5 before the call. The values come in the
-// order of the fields that take one, at most 2,000 of them. Each is one of
+// SIZE is decimal, 0 to 300; the bytes of the buffer all hold A5 before the call. The values, at most
+// 2,000, come in the order of the fields that take one. Each is one of
 //
-//     u42                           an unsigned integer below 2^64
+//     u42                           an unsigned integer below 2^64, of at most 20 digits
 //     i-42                          a signed integer of 64 bits
-//     f-0.25                        the f64 nearest to a decimal number of at most 15 digits; a point has
-//                                   digits on both sides
-//     vKIND:BITS                    the 64 bits BITS, of 1 to 16 digits, with the code KIND of a value's
-//                                   kind, 0 to 255; they need not be a value of that kind
+//     f-0.25                        the f64 nearest to a decimal number of at most 15 digits; a point
+//                                   has digits on both sides
+//     vKIND:BITS                    64 bits, of 1 to 16 digits, by the code of a value's kind, 0 to
+//                                   255; they need not be a value of that kind
 //     tBYTES                        text or bytes, two digits each; t alone is empty
 //     eXX:BYTES                     text, with the encoding byte XX
 //
@@ -47,6 +47,7 @@ fn main() {
     let mut input = io::large_buffer();
     let mut line = [0u8; 8192];
     let mut values = [0u8; entries::VALUES_BYTES];
+    // Two digits of a line are a byte of text, so there is always room.
     let mut lent = [0u8; 4096];
     let mut out = io::large_buffer();
     run(&mut input, &mut line, &mut values, &mut lent, &mut out);

@@ -57,7 +57,8 @@ wordAt s q = bitsAt s (q * 8) 64
 abbrev pub encodingIn : ℕ → ℕ → Encoding
 encodingIn mark byte = pick (eqb mark 0) Absent (Byte byte)
 
--- a text or bytes: byte 1 marks the encoding byte, which is byte 2; then the place in the lent text, and the length
+-- a text or bytes: byte 1 marks the encoding byte, which is byte 2; from byte 8 the place in the lent text, from byte 16 the length. Bytes 3
+-- to 7 are not looked at
 abbrev pub textAt : List ℕ → ℕ → PgnBytes
 textAt s q = record { start = bytes (wordAt s (q + 8)); len = bytes (wordAt s (q + 16)); encoding = encodingIn (getD s (q + 1) 0) (getD s (q + 2) 0) }
 

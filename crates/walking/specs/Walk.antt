@@ -28,7 +28,7 @@ module _ {W S F : Type 0} where
   lift (hit v s) = ran (v ∷ []) s
   lift (miss f) = stopped [] f
 
--- where a field stands that starts none of the n sets from set k on, if it starts one
+-- where a field stands that starts none of the sets before set k: n more are looked at
 unfoldable pub placeFrom : Table → ℕ → ℕ → ℕ → Place
 placeFrom t i k zero = pick (inSets t i (t .sets)) Inside Plain
 placeFrom t i k (suc n) = pick (eqb (t .set k .start) i) (Starts k) (placeFrom t i (suc k) n)
@@ -44,7 +44,7 @@ module _ (t : Table) {W S F : Type 0} (one : ℕ → Element → Bool → S → 
   unfoldable pub elementAt : ℕ → ℕ → S → Run W S F
   elementAt k e s = times (t .set k .size) 0 (λ j z. lift (one (t .set k .start + j) (At e) false z)) s
 
-  -- "then refusal 5 if over the maximum"
+  -- "then refusal 5 if over the maximum"; of writing, "over the maximum is 5"
   unfoldable pub groupAt : ℕ → S → Run W S F
   groupAt k s = guard (leb (count k s) (t .set k .maximum)) (over k (count k s) (t .set k .maximum)) (times (count k s) 0 (elementAt k) s)
 

@@ -1,4 +1,5 @@
--- What comes of a value in a field before a bit is written: document 01, "Writing a payload", and "At an encoded field: [12,] 11, 10 or 13, 3, 2".
+-- What comes of a value in a field before a bit is written: document 01, "Writing a payload", and "At an encoded field: 12,
+-- 11, 10 or 13, 3, 2", of which 12 is asked before.
 use Prim.Native.Nat.{ℕ, _+_, _-_, _*_, _/_, _%_}
 use mathlib.Core.Bool.{Bool, true, false, not, _||_}
 use lib.Dec.{eqb, ltb}

@@ -62,7 +62,7 @@ offeredOf (Value v) f i lent size at = weighedOf f i v lent size at
 abbrev pub contentOf : Offer → FieldDescriptor → ℕ → ℕ → ℕ → ℕ → Weighed
 contentOf o f i lent size at = pick (isGap (shapeOf f)) (gapOf f i size at) (offeredOf o f i lent size at)
 
--- where the pen stands once that is written: its value is used. "Sums saturate"
+-- where the pen stands once that is written: its value is used. That number saturates, since a step takes any walk
 abbrev pub penAfter : Table → ℕ → Element → Pen → Weighed → Pen
 penAfter t i e s (weighed.Number n r) = penAt (s .at .0 + n .0) (saturated (s .used + 1)) (notedBy t e i (raw.Number r) (s .counters))
 penAfter t i e s (weighed.Gap n) = penAt (s .at .0 + n .0) (s .used) (s .counters)
@@ -97,7 +97,7 @@ writesOf t offered lent size = walkFrom t (oneOf t offered lent size) (countOf t
 
 -- ## The answer
 
--- "7, 8, then [the walk]"
+-- "7, 8, then the walk"
 abbrev pub byCheck : Checked → Begun
 byCheck checked.Accepted = begun.Ready
 byCheck (checked.Refused rule index) = begun.Refused (TableRefused rule index)
@@ -133,11 +133,11 @@ unfoldable pub painted : List ℕ → List Mark → List ℕ → List ℕ
 painted buffer [] lent = buffer
 painted buffer (m ∷ ms) lent = painted (inked buffer (m .start) (m .content) lent) ms lent
 
--- "all bits after are ones": the fields wholly written, in a buffer of ones
+-- "all bits after are ones"; and a refused encode leaves "the buffer all 0xFF except the fields wholly written before; the faulty field leaves no bit"
 abbrev pub imageOf : ℕ → List Mark → List ℕ → List ℕ
 imageOf size ms lent = painted (replicate size 0xff) ms lent
 
--- "7 and 8 touch nothing"
+-- "Refusals 7 and 8 touch no buffer"
 abbrev pub bufferIn : Begun → Table → Values → List ℕ → List ℕ → List ℕ
 bufferIn begun.Ready t vs lent buffer = imageOf (length buffer) (marksOf (writesOf t (vs .offered) (length lent) (length buffer))) lent
 bufferIn (begun.Refused e) t vs lent buffer = buffer

@@ -41,12 +41,14 @@ inked buffer at (Gap n) lent = buffer
 inked buffer at (Text n lead b) lent = poured buffer at (bytesBy lead (n .0) (textIn lent b))
 inked buffer at (Refused e) lent = buffer
 
--- what has room: so many bytes of buffer, a cursor, so many bytes of lent text. What `weigh_field` lets through is so: proofs/Puts.antt
+-- n bits are whole bytes, and a text of `len` bytes with what stands around it fits them
 pub record Whole (n : ℕ) (lead : Lead) (len : ℕ) : Type 0 where
   pub bytes : ℕ
   pub same : n ≡ 8 * bytes
   pub fits : around lead len ≤ bytes
 
+-- what has room: so many bytes of buffer, a cursor, so many bytes of lent text. What `weigh_field` and `weigh_gap` let through is so:
+-- proofs/Puts.antt
 abbrev pub Puttable : ℕ → ℕ → Weighed → ℕ → Type 0
 Puttable size at (Number n raw) lent = (size ≤ 223) × ((0 < n .0) × ((n .0 ≤ 64) × (at + n .0 ≤ size * 8)))
 Puttable size at (Gap n) lent = (size ≤ 65536) × (at + n .0 ≤ size * 8)

@@ -1,4 +1,4 @@
--- Read-back, to be held against document 01: "What is written reads back, given room, with the same raw numbers." What encode accepts and
+-- Read-back, a demand of the project over document 01: "What is written reads back, given room, with the same raw numbers." What encode accepts and
 -- writes, the first bytes used of the buffer, decode reads: the same fields, elements, spans and raw numbers, the same LZ, LAU and Binary bytes,
 -- a StringFix as its text followed by the fill, ending where encode ended; the table's filling included. Definitions only: that it holds is
 -- `proofs/ReadsBack.antt`.

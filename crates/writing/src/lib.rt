@@ -1,9 +1,10 @@
 // Writing a payload by a table: document 01, "Writing a payload".
 //
-// Promise: each call takes whatever it is given and answers as specs/Encode.antt and specs/Strokes.antt
-// say of the table that the words are: refusal 7 or 8, which leave the buffer as it was; else the bytes
-// used, or the refusal that ended the walk. The buffer at exit is ones, into which each field wholly
-// written is put: a faulty field leaves no bit. No public call has a `requires`.
+// Promise: each call takes whatever it is given. `encode` answers as specs/Encode.antt says of the table
+// that the words are: refusal 7 or 8, which leave the buffer as it was; else the bytes used, or the
+// refusal that ended the walk, and the buffer at exit is ones, into which each field wholly written is
+// put: a faulty field leaves no bit. `write_next` takes one turn of the same walk, as specs/Strokes.antt
+// says; it and `write_field` put one field and keep every other bit. No public call has a `requires`.
 //
 //     begin                 7 and 8, and all bits of the buffer are ones
 //     start, write_next     turn by turn: each takes the next value, or says that there is none
@@ -43,7 +44,7 @@ pub struct Draft {
 pub enum Stroke {
     // The offered value is written.
     Wrote(Span),
-    // The field stays ones: the offer is not used.
+    // The field stays as `begin` left it, ones: the offer is not used.
     Skipped(Span),
     // No field: into a set, to its next element or out of it. The offer is not used.
     Moved,
