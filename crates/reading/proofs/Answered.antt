@@ -70,7 +70,7 @@ module _ (t : Table) (received : List ℕ) (padded room : ℕ) where
   pub answered : (end : BitPos) (n : ℕ) → decodedOf t received padded room ≡ decoded.Ended end n → (vs : List Span) × (s : Progress) × Decodes t received padded room vs s
   answered end n h = by-prepared end n (preparedOf t (length received) padded) refl h
 
-  reads : (vs : List Span) (s : Progress) → Decodes t received padded room vs s → readingsOf t received padded room ≡ readings t working vs
+  pub reads : (vs : List Span) (s : Progress) → Decodes t received padded room vs s → readingsOf t received padded room ≡ readings t working vs
   reads vs s d = ap (λ (q : Prepared). readInto q t working room) (d .ready) ∙ ap (λ (r : Run Span Progress DecodeRefusal). readings t working (spansOf r)) (d .run)
 
 -- ## Two runs

@@ -3,6 +3,7 @@ pub mod Counted
 pub mod Told
 pub mod Turned
 pub mod Looped
+pub mod Seated
 pub mod Spans
 pub mod Least
 pub mod Local

@@ -4,7 +4,6 @@ pub mod Placed
 pub mod Quickly
 pub mod Noting
 pub mod Leading
-pub mod Seated
 pub mod Storing
 pub mod Counting
 pub mod Known

@@ -10,7 +10,7 @@ use Rattle.reading.specs.declared.Decoded.{Decoded}
 use Rattle.reading.specs.Decode.{walkOf, readings, spansOf, endOf}
 use Rattle.records.specs.Layout.{roomIn}
 use Rattle.records.specs.Stretches.{Roomy, stored, countIn, counted}
-use Rattle.records.proofs.Seated.{few}
+use Rattle.reading.proofs.Seated.{few}
 use Rattle.records.proofs.Counting.{count-end, roomy-in, stored-in}
 use borrow.Author.Needs.{needs}
 use Rattle.records.proofs.into.walked.Statement.{statement}

@@ -9,7 +9,7 @@ use Rattle.reading.specs.declared.Next.{Next}
 use Rattle.reading.specs.Steps.{handed}
 use Rattle.records.specs.Stretches.{stored}
 use Rattle.records.proofs.Quickly.{stored-one, stored-none}
-use Rattle.records.proofs.Seated.{met-room}
+use Rattle.reading.proofs.Seated.{met-room}
 use borrow.Author.Needs.{needs}
 use Rattle.records.proofs.walks.turn.Statement.{statement}
 use Rattle.records.proofs.walks.turn.Tie as tie

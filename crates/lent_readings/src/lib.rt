@@ -1,0 +1,60 @@
+// A payload into a lent run of readings: document 01, "readings go into a lent run of such records".
+//
+// Promise: `decode` takes any words, payload, padding run and run of readings, and answers as
+// specs/Decode.antt of `reading` says, with as much room as the run has entries. The padding run holds at
+// exit what specs/Filling.antt there says. The run of readings holds, from its first entry on, the
+// readings that were made, a refused decode's too; every later entry is as it was. No call has a `requires`.
+//
+// A slice of structs is lent here, so `decode` is proved by a walk of its code. What it asks at each turn,
+// `step`, makes the reading first.
+ghost use mathlib.Core.Path.{_≡_};
+ghost use lib.ListN.{length};
+ghost use Rattle.tables.specs.Table.{tableOf};
+ghost use Rattle.reading.specs.Filling.{runAfter};
+ghost use Rattle.reading.specs.Decode.{decodedOf};
+ghost use Rattle.lent_readings.specs.Run.{entriesAfter};
+use crate::steps::decoded_of;
+use crate::steps::fresh;
+use crate::steps::is_over;
+use crate::steps::place_of;
+use crate::steps::reading_of;
+use crate::steps::step;
+use crate::steps::stores;
+use reading::Decoded;
+use reading::Reading;
+use reading::Walk;
+
+mod steps;
+
+// A decode between two turns.
+pub(crate) struct Step {
+    // The reading is to be stored at `place`.
+    stores: bool,
+    // The decode is over: it answers `decoded`.
+    over: bool,
+    // Nothing has been done yet.
+    fresh: bool,
+    place: usize,
+    reading: Reading,
+    walk: Walk,
+    decoded: Decoded,
+}
+
+// Every field of a received payload, by a table, into a run of readings: the end and the number of
+// readings, or the refusal. The padding run is of 223 bytes.
+pub fn decode(words: &[u64], received: &[u8], padded: &mut [u8], out: &mut [Reading]) -> Decoded
+    ensures { λ r. ⌜ (r ≡ decodedOf (tableOf (now (words .entry))) (now (received .entry)) (length (now (padded .entry))) (length (now (out .entry)))) × ((now (padded .exit) ≡ runAfter (tableOf (now (words .entry))) (now (received .entry)) (now (padded .entry))) × (now (out .exit) ≡ entriesAfter (tableOf (now (words .entry))) (now (received .entry)) (length (now (padded .entry))) (now (out .entry)))) ⌝ }
+{
+    let mut c = fresh();
+    loop {
+        c = step(words, received, padded, c, out.len());
+        if stores(c) {
+            let k = place_of(c);
+            out[k] = reading_of(c);
+        } else {
+            if is_over(c) {
+                return decoded_of(c);
+            } else {}
+        }
+    }
+}
