@@ -1,2 +1,4 @@
 pub mod Lending
+pub mod Meeting
 pub mod Asking
+pub mod Tests

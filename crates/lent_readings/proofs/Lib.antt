@@ -1,4 +1,4 @@
-pub mod Tests
 pub mod Turns
+pub mod Walked
 pub mod OneAnswer
 pub mod Demands

@@ -19,6 +19,13 @@ use Rattle.reading.specs.Filling.{runAfter}
 use Rattle.reading.specs.Decode.{decodedOf}
 use Rattle.lent_readings.specs.Run.{entriesAfter}
 use Rattle.lent_readings.proofs.decode as decode
+use Rattle.lent_readings.proofs.steps.fresh.Reads as fresh
+use Rattle.lent_readings.proofs.steps.turn.Reads as turn
+use Rattle.lent_readings.proofs.steps.stores.Reads as stores
+use Rattle.lent_readings.proofs.steps.place_of.Reads as place-of
+use Rattle.lent_readings.proofs.steps.reading_of.Reads as reading-of
+use Rattle.lent_readings.proofs.steps.is_over.Reads as is-over
+use Rattle.lent_readings.proofs.steps.decoded_of.Reads as decoded-of
 
 -- the contract of `decode`: of words, received payload, padding run and run of readings
 abbrev pub Decode : (κs : Lfts 4) → Args decode.signature κs → Res decode.signature κs → AtExit decode.ended κs → Type 0
@@ -43,3 +50,29 @@ module _ {M : Type 1} (𝓤 : URA M) (H : Heap 𝓤) (A : Atoms 𝓤) (mem : Mem
 
   is-decode : decode.clauses 𝓤 H A mem run ≡ plainly
   is-decode = refl
+
+-- The turns.
+
+one-fresh : Fixes fresh.Post (λ κs x s. x)
+one-fresh = fixed (λ κs a x s p. p)
+
+one-turn : Fixes turn.Post (λ κs x s. x)
+one-turn = fixed (λ κs a x s p. p .0)
+
+same-turn : Fixes turn.Post (λ κs x s. now (s .1 .1 .0))
+same-turn = fixed (λ κs a x s p. p .1)
+
+one-stores : Fixes stores.Post (λ κs x s. x)
+one-stores = fixed (λ κs a x s p. p)
+
+one-place-of : Fixes place-of.Post (λ κs x s. x)
+one-place-of = fixed (λ κs a x s p. p)
+
+one-reading-of : Fixes reading-of.Post (λ κs x s. x)
+one-reading-of = fixed (λ κs a x s p. p)
+
+one-is-over : Fixes is-over.Post (λ κs x s. x)
+one-is-over = fixed (λ κs a x s p. p)
+
+one-decoded-of : Fixes decoded-of.Post (λ κs x s. x)
+one-decoded-of = fixed (λ κs a x s p. p)

@@ -1,5 +1,5 @@
--- The turns of `decode`, with no memory in them: where one may begin (`At`), what each leaves (`stored`, `went`), and what holds where they stop (`ends`).
--- Assumes nothing.
+-- The turns of a decode into a lent run, with no memory in them: where one may begin (`At`), what each leaves (`stored`, `went`), and what holds where they
+-- stop (`ends`). The run is of readings, or of what is made of each. Assumes nothing.
 use mathlib.Core.Path.{_≡_, refl, sym, ap, ap₂, _∙_, subst}
 use mathlib.Core.Bool.{Bool, true, false, not}
 use mathlib.Core.List.{List, [], _∷_, _++_, append-nil, append-assoc}
@@ -29,22 +29,30 @@ use Rattle.reading.proofs.Looped.{Going, heft, going, Turned, turned}
 use Rattle.reading.proofs.Seated.{met-room}
 use Rattle.reading.proofs.Working.{picked-working, ready-accepted, run-refused}
 use Rattle.lent_readings.specs.declared.Step.{Step}
-use Rattle.lent_readings.specs.Run.{entriesOf, entriesAfter}
+use Rattle.lent_readings.specs.Run.{entriesOf}
 use Rattle.lent_readings.specs.Steps.{freshStep, onStep, storingStep, overStep, begunBy, answeredBy, turnedBy, stepOf, paddedAfter}
-use Rattle.lent_readings.proofs.Tests.{is-true, is-false}
+use Rattle.lending.proofs.Tests.{is-true, is-false}
 
--- one reading more in a run that has room for it
-entries-more : (rs ys : List Reading) (r : Reading) → length rs < length ys → set (entriesOf rs ys) (length rs) r ≡ entriesOf (rs ++ r ∷ []) ys
-entries-more [] [] r l = absurd (omega arith)
-entries-more [] (y ∷ ys) r l = refl
-entries-more (x ∷ rs) [] r l = absurd (omega arith)
-entries-more (x ∷ rs) (y ∷ ys) r l = ap (λ (zs : List Reading). x ∷ zs) (entries-more rs ys r (omega (arith, l)))
+-- what a run holds: something of each reading
+pub record Kind (X : Type 0) : Type 0 where
+  pub one : Reading → X
+  pub all : List Reading → List X
+  pub none : all [] ≡ []
+  pub more : (rs : List Reading) (r : Reading) → all (rs ++ r ∷ []) ≡ all rs ++ one r ∷ []
+  pub long : (rs : List Reading) → length (all rs) ≡ length rs
 
-entries-none : (rs ys : List Reading) → 0 ≡ length rs → ys ≡ entriesOf rs ys
-entries-none [] ys h = refl
-entries-none (r ∷ rs) ys h = absurd (omega (arith, h))
+-- one more in a run that has room for it
+set-more : {X : Type 0} (xs ys : List X) (x : X) → length xs < length ys → set (entriesOf xs ys) (length xs) x ≡ entriesOf (xs ++ x ∷ []) ys
+set-more [] [] x l = absurd (omega arith)
+set-more [] (y ∷ ys) x l = refl
+set-more (z ∷ xs) [] x l = absurd (omega arith)
+set-more (z ∷ xs) (y ∷ ys) x l = ap (λ (zs : List _). z ∷ zs) (set-more xs ys x (omega (arith, l)))
 
-module _ (t : Table) (received pad₀ : List ℕ) (ys : List Reading) where
+none-read : (rs : List Reading) → 0 ≡ length rs → rs ≡ []
+none-read [] h = refl
+none-read (r ∷ rs) h = absurd (omega (arith, h))
+
+module _ {X : Type 0} (K : Kind X) (t : Table) (received pad₀ : List ℕ) (ys : List X) where
   abbrev p : Payload
   p = payloadOf (workingOf t received)
 
@@ -58,25 +66,37 @@ module _ (t : Table) (received pad₀ : List ℕ) (ys : List Reading) where
   abbrev pub padding : List ℕ
   padding = runAfter t received pad₀
 
-  abbrev pub entries : List Reading
-  entries = entriesAfter t received (length pad₀) ys
+  abbrev pub entries : List X
+  entries = entriesOf (K .all (readingsOf t received (length pad₀) room)) ys
+
+  -- the run with these readings in it
+  abbrev kept : List Reading → List X
+  kept rs = entriesOf (K .all rs) ys
+
+  kept-more : (rs : List Reading) (r : Reading) → length rs < room → set (kept rs) (length rs) (K .one r) ≡ kept (rs ++ r ∷ [])
+  kept-more rs r l =
+      ap (λ (n : ℕ). set (kept rs) n (K .one r)) (sym (K .long rs)) ∙ set-more (K .all rs) ys (K .one r) (subst (λ (n : ℕ). n < room) (sym (K .long rs)) l)
+      ∙ ap (λ (xs : List X). entriesOf xs ys) (sym (K .more rs r))
+
+  kept-none : (rs : List Reading) → 0 ≡ length rs → ys ≡ kept rs
+  kept-none rs h = sym (ap kept (none-read rs h) ∙ ap (λ (xs : List X). entriesOf xs ys) (K .none))
 
   abbrev ready : Type 0
   ready = preparedOf t (length received) (length pad₀) ≡ Ready
 
   -- where a turn may begin: nothing is done yet, or the readings made so far are stored
-  pub data Holds (c : Step) (pad : List ℕ) (cur : List Reading) : Type 0 where
+  pub data Holds (c : Step) (pad : List ℕ) (cur : List X) : Type 0 where
     first : c ≡ freshStep → pad ≡ pad₀ → cur ≡ ys → Holds c pad cur
-    later : c .fresh ≡ false → ready → (g : Going t p room (c .walk)) → pad ≡ padding → cur ≡ entriesOf (readings t p (g .done)) ys → Holds c pad cur
+    later : c .fresh ≡ false → ready → (g : Going t p room (c .walk)) → pad ≡ padding → cur ≡ kept (readings t p (g .done)) → Holds c pad cur
 
   -- how far it is to the end at most
   abbrev weight : Step → ℕ
   weight c = pick (c .fresh) (suc (heft t p room startOf)) (heft t p room (c .walk))
 
   -- what a turn from c leaves
-  pub record Left (c : Step) (cur : List Reading) (d : Step) (pad : List ℕ) : Type 0 where
+  pub record Left (c : Step) (cur : List X) (d : Step) (pad : List ℕ) : Type 0 where
     pub inside : d .stores ≡ true → d .place < room
-    pub stored : d .stores ≡ true → Holds d pad (set cur (d .place) (d .reading)) × (weight d < weight c)
+    pub stored : d .stores ≡ true → Holds d pad (set cur (d .place) (K .one (d .reading))) × (weight d < weight c)
     pub went : d .stores ≡ false → d .over ≡ false → Holds d pad cur × (weight d < weight c)
     pub ends : d .stores ≡ false → d .over ≡ true → (d .decoded ≡ answers) × ((pad ≡ padding) × (cur ≡ entries))
 
@@ -92,7 +112,7 @@ module _ (t : Table) (received pad₀ : List ℕ) (ys : List Reading) where
   begins c f Ready e = record {
     inside = λ h. not-true h;
     stored = λ h. not-true h;
-    went = λ _ _. (later refl e (going t p room) refl (entries-none (readings t p (going t p room .done)) ys (going t p room .made)), subst (λ (b : Bool). heft t p room startOf < pick b (suc (heft t p room startOf)) (heft t p room (c .walk))) (sym f) (omega arith));
+    went = λ _ _. (later refl e (going t p room) refl (kept-none (readings t p (going t p room .done)) (going t p room .made)), subst (λ (b : Bool). heft t p room startOf < pick b (suc (heft t p room startOf)) (heft t p room (c .walk))) (sym f) (omega arith));
     ends = λ _ h. not-true h;
   }
   begins c f (Refused x) e = record {
@@ -101,7 +121,7 @@ module _ (t : Table) (received pad₀ : List ℕ) (ys : List Reading) where
     went = λ _ h. not-false h;
     ends = λ _ _. (
       ap (λ (q : Prepared). decodedIn q t p room) (sym e),
-      (refl, ap (λ (q : Prepared). entriesOf (readInto q t p room) ys) (sym e)),
+      (refl, sym (ap (λ (q : Prepared). kept (readInto q t p room)) e ∙ ap (λ (xs : List X). entriesOf xs ys) (K .none))),
     );
   }
 
@@ -113,8 +133,8 @@ module _ (t : Table) (received pad₀ : List ℕ) (ys : List Reading) where
     abbrev made : ℕ
     made = c .walk .progress .made
 
-    abbrev so-far : List Reading
-    so-far = entriesOf (readings t p (g .done)) ys
+    abbrev so-far : List X
+    so-far = kept (readings t p (g .done))
 
     after : Turned t p room (c .walk) g n
     after = turned t p room (ready-accepted t received pad₀ ok) (c .walk) g
@@ -126,7 +146,7 @@ module _ (t : Table) (received pad₀ : List ℕ) (ys : List Reading) where
     quiet : goesOn (n .answer) ≡ true → handed (n .answer) ≡ [] → Holds (onStep (n .walk)) padding so-far × (weight (onStep (n .walk)) < weight c)
     quiet o h =
         let y = after .on o in (
-          later refl ok (y .still) refl (ap (λ (rs : List Reading). entriesOf rs ys) (sym (y .hands ∙ ap (λ (rs : List Reading). readings t p (g .done) ++ rs) h ∙ append-nil (readings t p (g .done))))),
+          later refl ok (y .still) refl (ap kept (sym (y .hands ∙ ap (λ (rs : List Reading). readings t p (g .done) ++ rs) h ∙ append-nil (readings t p (g .done))))),
           lighter _ (y .less),
         )
 
@@ -134,7 +154,7 @@ module _ (t : Table) (received pad₀ : List ℕ) (ys : List Reading) where
     last : (d : Decoded) → goesOn (n .answer) ≡ false → endOf t p (walkOf t p room) ≡ d → (d ≡ answers) × ((padding ≡ padding) × (so-far ≡ entries))
     last d o e = (
       sym e ∙ ap (λ (q : Prepared). decodedIn q t p room) (sym ok),
-      (refl, ap (λ (rs : List Reading). entriesOf rs ys) (sym (after .last o)) ∙ ap (λ (q : Prepared). entriesOf (readInto q t p room) ys) (sym ok)),
+      (refl, ap kept (sym (after .last o)) ∙ ap (λ (q : Prepared). kept (readInto q t p room)) (sym ok)),
     )
 
     goes : (a : Answer) → n .answer ≡ a → Left c so-far (answeredBy a (n .walk) made) padding
@@ -145,8 +165,8 @@ module _ (t : Table) (received pad₀ : List ℕ) (ys : List Reading) where
           let m : made ≡ length (readings t p (g .done)) = g .made in
           let l : length (readings t p (g .done)) < room = subst (λ (k : ℕ). k < room) m (met-room t p room (c .walk) r e) in (
             later refl ok (y .still) refl (
-                ap (λ (k : ℕ). set so-far k r) m ∙ entries-more (readings t p (g .done)) ys r l
-                ∙ ap (λ (rs : List Reading). entriesOf rs ys) (sym (y .hands ∙ ap (λ (x : Answer). readings t p (g .done) ++ handed x) e))),
+                ap (λ (k : ℕ). set so-far k (K .one r)) m ∙ kept-more (readings t p (g .done)) r l
+                ∙ ap kept (sym (y .hands ∙ ap (λ (x : Answer). readings t p (g .done) ++ handed x) e))),
             lighter _ (y .less),
           );
       went = λ h. not-false h;
@@ -160,20 +180,20 @@ module _ (t : Table) (received pad₀ : List ℕ) (ys : List Reading) where
     stepped : stepOf t received padding room c ≡ answeredBy (n .answer) (n .walk) made
     stepped = rw f (ap (λ (l : List ℕ). turnedBy (nextOf t (payloadOf l) room (c .walk)) made) (picked-working t received pad₀ ok))
 
-  leaves : (c : Step) (pad : List ℕ) (cur : List Reading) (pad′ : List ℕ) (cur′ : List Reading) → pad ≡ pad′ → cur ≡ cur′ → (d : Step) (pad″ : List ℕ)
+  leaves : (c : Step) (pad : List ℕ) (cur : List X) (pad′ : List ℕ) (cur′ : List X) → pad ≡ pad′ → cur ≡ cur′ → (d : Step) (pad″ : List ℕ)
       → stepOf t received pad′ room c ≡ d → paddedAfter t received pad′ c ≡ pad″ → Left c cur′ d pad″ → Left c cur (stepOf t received pad room c) (paddedAfter t received pad c)
   leaves c pad cur pad′ cur′ q r d pad″ e h l =
       subst (λ (x : List ℕ). Left c cur (stepOf t received x room c) (paddedAfter t received x c)) (sym q)
-      (subst (λ (zs : List Reading). Left c zs (stepOf t received pad′ room c) (paddedAfter t received pad′ c)) (sym r)
+      (subst (λ (zs : List X). Left c zs (stepOf t received pad′ room c) (paddedAfter t received pad′ c)) (sym r)
       (subst (λ (x : Step). Left c cur′ x (paddedAfter t received pad′ c)) (sym e) (subst (λ (x : List ℕ). Left c cur′ d x) (sym h) l)))
 
   -- a turn from where one may begin
-  pub turns : (c : Step) (pad : List ℕ) (cur : List Reading) → Holds c pad cur → Left c cur (stepOf t received pad room c) (paddedAfter t received pad c)
+  pub turns : (c : Step) (pad : List ℕ) (cur : List X) → Holds c pad cur → Left c cur (stepOf t received pad room c) (paddedAfter t received pad c)
   turns c pad cur (first e q r) =
       let f : c .fresh ≡ true = ap (λ (x : Step). x .fresh) e in
       leaves c pad cur pad₀ ys q r (begunBy (preparedOf t (length received) (length pad₀))) padding (rw f refl) (rw f refl) (begins c f (preparedOf t (length received) (length pad₀)) refl)
   turns c pad cur (later f ok g q r) =
-      leaves c pad cur padding (entriesOf (readings t p (g .done)) ys) q r _ padding (stepped c f ok g) (rw f refl) (goes c f ok g (nextOf t p room (c .walk) .answer) refl)
+      leaves c pad cur padding (kept (readings t p (g .done))) q r _ padding (stepped c f ok g) (rw f refl) (goes c f ok g (nextOf t p room (c .walk) .answer) refl)
 
   -- ## The loop
 
@@ -181,7 +201,7 @@ module _ (t : Table) (received pad₀ : List ℕ) (ys : List Reading) where
   pub record At (Ok : Step → Type 0) : Type 0 where
     pub c : Step
     pub pad : List ℕ
-    pub cur : List Reading
+    pub cur : List X
     pub ok : Ok c
     pub same : length cur ≡ length ys
     pub padded : length pad ≡ length pad₀
@@ -214,9 +234,9 @@ module _ (t : Table) (received pad₀ : List ℕ) (ys : List Reading) where
       stored-at h = record {
         c = d;
         pad = pad;
-        cur = set (x .cur) (d .place) (d .reading);
+        cur = set (x .cur) (d .place) (K .one (d .reading));
         ok = ok;
-        same = length-set (x .cur) (d .place) (d .reading) ∙ x .same;
+        same = length-set (x .cur) (d .place) (K .one (d .reading)) ∙ x .same;
         padded = long ∙ x .padded;
         holds = left .stored (is-true (d .stores) h) .0;
       }

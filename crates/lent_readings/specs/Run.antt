@@ -6,9 +6,9 @@ use Rattle.tables.specs.Table.{Table}
 use Rattle.reading.specs.declared.Reading.{Reading}
 use Rattle.reading.specs.Decode.{readingsOf}
 
--- the readings, and the entries after them as they were
-abbrev pub entriesOf : List Reading → List Reading → List Reading
-entriesOf rs out = rs ++ drop (length rs) out
+-- what is stored, and the entries after it as they were
+abbrev pub entriesOf : {X : Type 0} → List X → List X → List X
+entriesOf xs out = xs ++ drop (length xs) out
 
 -- "leaves the readings made before the fault, in order [..]; later entries are unchanged": the readings of what was received, with a padding run of
 -- so many bytes; refusals 7 and 8 make none

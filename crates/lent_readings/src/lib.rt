@@ -5,39 +5,43 @@
 // exit what specs/Filling.antt there says. The run of readings holds, from its first entry on, the
 // readings that were made, a refused decode's too; every later entry is as it was. No call has a `requires`.
 //
-// A slice of structs is lent here, so `decode` is proved by a walk of its code. What it asks at each turn,
-// `step`, makes the reading first.
+// A slice of structs is lent here, so `decode` is proved by a walk of its code, proofs/Walked.antt. What it asks
+// at each turn, `turn`, makes the reading first.
+//
+//     decode          all of it in one call
+//     fresh, turn     turn by turn, for a run of something else that is made of each reading
 ghost use mathlib.Core.Path.{_≡_};
 ghost use lib.ListN.{length};
 ghost use Rattle.tables.specs.Table.{tableOf};
 ghost use Rattle.reading.specs.Filling.{runAfter};
 ghost use Rattle.reading.specs.Decode.{decodedOf};
 ghost use Rattle.lent_readings.specs.Run.{entriesAfter};
-use crate::steps::decoded_of;
-use crate::steps::fresh;
-use crate::steps::is_over;
-use crate::steps::place_of;
-use crate::steps::reading_of;
-use crate::steps::step;
-use crate::steps::stores;
 use reading::Decoded;
 use reading::Reading;
 use reading::Walk;
 
 mod steps;
 
+pub use crate::steps::decoded_of;
+pub use crate::steps::fresh;
+pub use crate::steps::is_over;
+pub use crate::steps::place_of;
+pub use crate::steps::reading_of;
+pub use crate::steps::stores;
+pub use crate::steps::turn;
+
 // A decode between two turns.
-pub(crate) struct Step {
+pub struct Step {
     // The reading is to be stored at `place`.
-    stores: bool,
+    pub stores: bool,
     // The decode is over: it answers `decoded`.
-    over: bool,
+    pub over: bool,
     // Nothing has been done yet.
-    fresh: bool,
-    place: usize,
-    reading: Reading,
-    walk: Walk,
-    decoded: Decoded,
+    pub fresh: bool,
+    pub place: usize,
+    pub reading: Reading,
+    pub walk: Walk,
+    pub decoded: Decoded,
 }
 
 // Every field of a received payload, by a table, into a run of readings: the end and the number of
@@ -47,7 +51,7 @@ pub fn decode(words: &[u64], received: &[u8], padded: &mut [u8], out: &mut [Read
 {
     let mut c = fresh();
     loop {
-        c = step(words, received, padded, c, out.len());
+        c = turn(words, received, padded, c, out.len());
         if stores(c) {
             let k = place_of(c);
             out[k] = reading_of(c);

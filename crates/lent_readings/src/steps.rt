@@ -43,7 +43,7 @@ fn no_answer() -> Decoded
 }
 
 // Before the first turn.
-pub(crate) fn fresh() -> Step
+pub fn fresh() -> Step
     ensures { λ r. ⌜ r ≡ freshStep ⌝ }
 {
     Step {
@@ -129,7 +129,7 @@ fn turned(next: Next, made: usize) -> Step
 }
 
 // A turn, with room for so many readings in all: the first one prepares, each other one takes a turn of the walk.
-pub(crate) fn step(words: &[u64], received: &[u8], padded: &mut [u8], c: Step, room: usize) -> Step
+pub fn turn(words: &[u64], received: &[u8], padded: &mut [u8], c: Step, room: usize) -> Step
     ensures { λ r. ⌜ (r ≡ stepOf (tableOf (now (words .entry))) (now (received .entry)) (now (padded .entry)) room c) × (now (padded .exit) ≡ paddedAfter (tableOf (now (words .entry))) (now (received .entry)) (now (padded .entry)) c) ⌝ }
 {
     if c.fresh {
@@ -143,31 +143,31 @@ pub(crate) fn step(words: &[u64], received: &[u8], padded: &mut [u8], c: Step, r
 }
 
 // The parts of a step, for `decode`: a walk of its code that read them itself would have to spell out the whole struct.
-pub(crate) fn stores(c: Step) -> bool
+pub fn stores(c: Step) -> bool
     ensures { λ r. ⌜ r ≡ c .stores ⌝ }
 {
     c.stores
 }
 
-pub(crate) fn place_of(c: Step) -> usize
+pub fn place_of(c: Step) -> usize
     ensures { λ r. ⌜ r ≡ c .place ⌝ }
 {
     c.place
 }
 
-pub(crate) fn reading_of(c: Step) -> Reading
+pub fn reading_of(c: Step) -> Reading
     ensures { λ r. ⌜ r ≡ c .reading ⌝ }
 {
     c.reading
 }
 
-pub(crate) fn is_over(c: Step) -> bool
+pub fn is_over(c: Step) -> bool
     ensures { λ r. ⌜ r ≡ c .over ⌝ }
 {
     c.over
 }
 
-pub(crate) fn decoded_of(c: Step) -> Decoded
+pub fn decoded_of(c: Step) -> Decoded
     ensures { λ r. ⌜ r ≡ c .decoded ⌝ }
 {
     c.decoded

@@ -18,6 +18,11 @@ mod walks;
 pub use crate::into::decode_into;
 pub use crate::into::room_in;
 pub use crate::pgns::decode_pgn_into;
+pub use crate::readings::bytes_in;
+pub use crate::readings::element_word;
+pub use crate::readings::raw_mark;
+pub use crate::readings::raw_word;
+pub use crate::readings::value_word;
 
 // The answer of `decode_pgn_into`.
 pub enum ByPgn {

@@ -49,7 +49,8 @@ fn put_record(
     put_word(out, at7, len);
 }
 
-fn element_word(e: Element) -> u64
+// Which element, all ones in no set.
+pub fn element_word(e: Element) -> u64
     ensures { λ r. ⌜ r ≡ elementWord e ⌝ }
 {
     match e {
@@ -58,7 +59,8 @@ fn element_word(e: Element) -> u64
     }
 }
 
-fn raw_word(raw: Raw) -> u64
+// The raw, 0 if there is none.
+pub fn raw_word(raw: Raw) -> u64
     ensures { λ r. ⌜ r ≡ rawWord raw ⌝ }
 {
     match raw {
@@ -67,7 +69,8 @@ fn raw_word(raw: Raw) -> u64
     }
 }
 
-fn raw_mark(raw: Raw) -> u64
+// Whether there is a raw.
+pub fn raw_mark(raw: Raw) -> u64
     ensures { λ r. ⌜ r ≡ rawMark raw ⌝ }
 {
     match raw {
@@ -86,7 +89,7 @@ fn encoding_mark(encoding: Encoding) -> u64
 }
 
 // The place, length and encoding of a text or bytes.
-fn bytes_in(value: PgnValue) -> PgnBytes
+pub fn bytes_in(value: PgnValue) -> PgnBytes
     ensures { λ r. ⌜ r ≡ bytesIn value ⌝ }
 {
     let PgnValue::Bytes(b) = value else {
@@ -134,7 +137,7 @@ pub(crate) fn put_number(
 }
 
 // The value's bits, or the place of a text or bytes.
-fn value_word(value: PgnValue) -> u64
+pub fn value_word(value: PgnValue) -> u64
     ensures { λ r. ⌜ r ≡ valueWord value ⌝ }
 {
     let PgnValue::Bytes(b) = value else {

@@ -6,6 +6,7 @@ use Rattle.writing.proofs.ink.write_field.Reads as write-field
 use Rattle.writing.proofs.begins.begin.Reads as begin
 use Rattle.writing.proofs.strokes.start.Reads as start
 use Rattle.writing.proofs.strokes.write_next.Reads as write-next
+use Rattle.writing.proofs.encodes.bytes_used.Reads as bytes-used
 use Rattle.writing.proofs.encodes.encode.Reads as encode
 
 one-write-field : Fixes write-field.Post (λ κs x s. x)
@@ -28,6 +29,9 @@ one-write-next = fixed (λ κs a x s p. p .0)
 
 same-write-next : Fixes write-next.Post (λ κs x s. now (s .1 .0))
 same-write-next = fixed (λ κs a x s p. p .1)
+
+one-bytes-used : Fixes bytes-used.Post (λ κs x s. x)
+one-bytes-used = fixed (λ κs a x s p. p)
 
 one-encode : Fixes encode.Post (λ κs x s. x)
 one-encode = fixed (λ κs a x s p. p .0)

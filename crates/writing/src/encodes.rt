@@ -17,7 +17,7 @@ use bits::BitPos;
 use bits::ByteCount;
 
 // The bytes that so many bits take, rounded up.
-fn bytes_used(at: BitPos) -> ByteCount
+pub fn bytes_used(at: BitPos) -> ByteCount
     ensures { λ r. ⌜ r ≡ bytes ((at .0 + 7) / 8) ⌝ }
 {
     let whole = at.0 / 8;

@@ -10,6 +10,7 @@
 //     start, write_next     turn by turn: each takes the next value, or says that there is none
 //     encode                all of it in one call, by value records in bytes
 //     write_field           one field, by itself
+//     bytes_used            the bytes that so many bits take
 use bits::BitPos;
 use bits::ByteCount;
 use reading::Span;
@@ -22,6 +23,7 @@ mod ink;
 mod strokes;
 
 pub use crate::begins::begin;
+pub use crate::encodes::bytes_used;
 pub use crate::encodes::encode;
 pub use crate::ink::write_field;
 pub use crate::strokes::start;

@@ -1,4 +1,4 @@
--- `lent_readings::steps::step` meets its contract: by whether it is the first turn. Assumes nothing.
+-- `lent_readings::steps::turn` meets its contract: by whether it is the first turn. Assumes nothing.
 use mathlib.Core.Path.{_≡_, sym, ap, _∙_}
 use mathlib.Core.Bool.{true, false}
 use mathlib.Core.List.{List}
@@ -10,8 +10,8 @@ use Rattle.reading.specs.declared.Next.{Next}
 use Rattle.reading.specs.Steps.{nextOf}
 use Rattle.lent_readings.specs.Steps.{begunBy, turnedBy}
 use borrow.Author.Needs.{needs}
-use Rattle.lent_readings.proofs.steps.step.Statement.{statement}
-use Rattle.lent_readings.proofs.steps.step.Tie as tie
+use Rattle.lent_readings.proofs.steps.turn.Statement.{statement}
+use Rattle.lent_readings.proofs.steps.turn.Tie as tie
 
 prepare-requires : tie.Need-prepare-requires
 prepare-requires c κs = search needs
@@ -55,8 +55,8 @@ returns-2 c =
       sym (rw not),
     )
 
-pub step-spec : {M : Type 1} → statement M
-step-spec =
+pub turn-spec : {M : Type 1} → statement M
+turn-spec =
     tie.close
     (tie.spec
     prepare-requires

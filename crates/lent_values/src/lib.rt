@@ -1,0 +1,47 @@
+// Writing a payload whose values are lent as values: document 01, "Writing a payload".
+//
+// Promise: `encode` takes whatever it is given and answers as `encode` of the crate `writing` does,
+// whose values are records in bytes: specs/Run.antt says what a lent run of values offers, and the rest
+// is specs/Encode.antt there. The buffer at exit is that of specs/Encode.antt too. It has no `requires`.
+//
+// `encode` alone touches the lent values, one at a time; `steps` has the walk, turn by turn.
+ghost use mathlib.Core.Path.{_≡_};
+ghost use lib.ListN.{length};
+ghost use Rattle.tables.specs.Table.{tableOf};
+ghost use Rattle.writing.specs.Encode.{encodedOf, bufferAfter};
+ghost use Rattle.lent_values.specs.Run.{valuesOf};
+use descriptor::PgnValue;
+use writing::Draft;
+use writing::Encoded;
+
+mod steps;
+
+// A walk between two turns: whether the next value is wanted, and its place; whether the walk is over,
+// and then its answer; whether it has not begun.
+pub(crate) struct Step {
+    wants: bool,
+    over: bool,
+    fresh: bool,
+    place: usize,
+    draft: Draft,
+    encoded: Encoded,
+}
+
+// Values by a table into a buffer: the bytes used, or the refusal. The texts of the values stand in the
+// lent text.
+pub fn encode(words: &[u64], values: &[PgnValue], lent: &[u8], buffer: &mut [u8]) -> Encoded
+    ensures { λ r. ⌜ (r ≡ encodedOf (tableOf (now (words .entry))) (valuesOf (now (values .entry))) (length (now (lent .entry))) (length (now (buffer .entry)))) × (now (buffer .exit) ≡ bufferAfter (tableOf (now (words .entry))) (valuesOf (now (values .entry))) (now (lent .entry)) (now (buffer .entry))) ⌝ }
+{
+    let mut c = steps::fresh();
+    let mut v = PgnValue::U8(0);
+    loop {
+        c = steps::step(words, lent, buffer, c, v, values.len());
+        if c.wants {
+            v = values[c.place];
+        } else {
+            if c.over {
+                return c.encoded;
+            }
+        }
+    }
+}

@@ -1,0 +1,135 @@
+// One turn of the walk. A turn takes the value at the place that the turn before it asked for.
+ghost use mathlib.Core.Path.{_≡_};
+ghost use lib.Dec.{ltb};
+ghost use lib.ListN.{length};
+ghost use Rattle.tables.specs.Table.{tableOf};
+ghost use Rattle.writing.specs.Encode.{begunOf};
+ghost use Rattle.writing.specs.Strokes.{onesIf, strokedOf, leftOf};
+ghost use Rattle.lent_values.specs.Turn.{offerBy, freshStep, goingOn, overWith, firstBy, nextBy, nextOf, stepOf, leftIn};
+use crate::Step;
+use bits::ByteCount;
+use descriptor::PgnValue;
+use offers::Offer;
+use writing::Begun;
+use writing::Draft;
+use writing::Encoded;
+use writing::Stroke;
+
+// Before the first turn.
+pub(crate) fn fresh() -> Step
+    ensures { λ r. ⌜ r ≡ freshStep ⌝ }
+{
+    Step {
+        wants: false,
+        over: false,
+        fresh: true,
+        place: 0,
+        draft: writing::start(),
+        encoded: Encoded::Ended(ByteCount(0)),
+    }
+}
+
+// The walk goes on, with the next value if there is one.
+fn going_on(draft: Draft, count: usize) -> Step
+    ensures { λ r. ⌜ r ≡ goingOn count draft ⌝ }
+{
+    let pen = draft.pen;
+    let used = pen.used;
+    Step {
+        wants: used < count,
+        over: false,
+        fresh: false,
+        place: used,
+        draft,
+        encoded: Encoded::Ended(ByteCount(0)),
+    }
+}
+
+// The walk is over, with this answer.
+fn over_with(draft: Draft, encoded: Encoded) -> Step
+    ensures { λ r. ⌜ r ≡ overWith draft encoded ⌝ }
+{
+    Step {
+        wants: false,
+        over: true,
+        fresh: false,
+        place: 0,
+        draft,
+        encoded,
+    }
+}
+
+// The first turn: refusal 7 or 8, or a buffer of ones.
+fn first(words: &[u64], buffer: &mut [u8], count: usize) -> Step
+    ensures { λ r. ⌜ (r ≡ firstBy (begunOf (tableOf (now (words .entry))) (length (now (buffer .entry)))) count) × (now (buffer .exit) ≡ onesIf (begunOf (tableOf (now (words .entry))) (length (now (buffer .entry)))) (now (buffer .entry))) ⌝ }
+{
+    let begun = writing::begin(words, buffer);
+    let draft = writing::start();
+    match begun {
+        Begun::Ready => going_on(draft, count),
+        Begun::Refused(refusal) => over_with(draft, Encoded::Refused(refusal)),
+    }
+}
+
+// What is offered: the value, where there is one.
+fn offered(v: PgnValue, used: usize, count: usize) -> Offer
+    ensures { λ r. ⌜ r ≡ offerBy (ltb used count) v ⌝ }
+{
+    if used < count {
+        Offer::Value(v)
+    } else {
+        Offer::Nothing
+    }
+}
+
+// After a stroke.
+fn after(stroke: Stroke, draft: Draft, count: usize) -> Step
+    ensures { λ r. ⌜ r ≡ nextBy stroke draft count ⌝ }
+{
+    let pen = draft.pen;
+    match stroke {
+        Stroke::Wrote(_) => going_on(draft, count),
+        Stroke::Skipped(_) => going_on(draft, count),
+        Stroke::Moved => going_on(draft, count),
+        Stroke::Ended => over_with(draft, Encoded::Ended(writing::bytes_used(pen.at))),
+        Stroke::Refused(refusal) => over_with(draft, Encoded::Refused(refusal)),
+    }
+}
+
+// A later turn.
+fn next(
+    words: &[u64],
+    lent: &[u8],
+    buffer: &mut [u8],
+    draft: Draft,
+    v: PgnValue,
+    count: usize,
+) -> Step
+    ensures { λ r. ⌜ (r ≡ nextOf (strokedOf (tableOf (now (words .entry))) (offerBy (ltb (draft .pen .used) count) v) (length (now (lent .entry))) (length (now (buffer .entry))) draft) count) × (now (buffer .exit) ≡ leftOf (tableOf (now (words .entry))) (offerBy (ltb (draft .pen .used) count) v) (now (lent .entry)) (now (buffer .entry)) draft) ⌝ }
+{
+    let pen = draft.pen;
+    let offer = offered(v, pen.used, count);
+    let next = writing::write_next(words, buffer, lent, draft, offer);
+    let stroke = next.stroke;
+    let to = next.draft;
+    after(stroke, to, count)
+}
+
+// One turn, with the value that was asked for, of so many.
+pub(crate) fn step(
+    words: &[u64],
+    lent: &[u8],
+    buffer: &mut [u8],
+    c: Step,
+    v: PgnValue,
+    count: usize,
+) -> Step
+    ensures { λ r. ⌜ (r ≡ stepOf (tableOf (now (words .entry))) (length (now (lent .entry))) (length (now (buffer .entry))) c v count) × (now (buffer .exit) ≡ leftIn (tableOf (now (words .entry))) (now (lent .entry)) (now (buffer .entry)) c v count) ⌝ }
+{
+    if c.fresh {
+        first(words, buffer, count)
+    } else {
+        let draft = c.draft;
+        next(words, lent, buffer, draft, v, count)
+    }
+}

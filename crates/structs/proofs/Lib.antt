@@ -1,0 +1,4 @@
+pub mod Listed
+pub mod Same
+pub mod Stored
+pub mod OneAnswer

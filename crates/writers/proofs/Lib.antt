@@ -1,0 +1,4 @@
+pub mod Held
+pub mod Moving
+pub mod Numbers
+pub mod OneAnswer
