@@ -4,11 +4,14 @@ ghost use mathlib.Core.Path.{_≡_};
 ghost use lib.ListN.{length};
 ghost use Rattle.tables.specs.Table.{tableOf};
 ghost use Rattle.reading.specs.Filling.{runAfter};
+ghost use Rattle.reading.specs.Decode.{decodedOf};
+ghost use Rattle.structs.specs.Structs.{structsAfter};
 ghost use Rattle.records.specs.Into.{decodedInto, outAfter};
 ghost use Rattle.records.specs.Pgn.{byPgnOf, outByPgn};
 ghost use Rattle.samopute_c.specs.Decodes.{decodedStatus, decodedCells, filledBy, cellsOf, pgnStatus, pgnCells, versionOf};
 use reading::Decoded;
 use records::ByPgn;
+use structs::Record;
 
 // 0, or the refusal's number.
 fn status_of(decoded: Decoded) -> u32
@@ -57,6 +60,16 @@ fn tell_decoded(answer: &mut [u64; 5], filled: u64, decoded: Decoded)
     }
 }
 
+// The status of a decode of so many bytes, and its answer laid out.
+fn told(words: &[u64], received: usize, decoded: Decoded, answer: &mut [u64; 5]) -> u32
+    ensures { λ r. ⌜ (r ≡ decodedStatus decoded) × (now (answer .exit) ≡ cellsOf (tableOf (now (words .entry))) received decoded) ⌝ }
+{
+    let status = status_of(decoded);
+    let filled = filled_by(status, reading::is_filled(words, received));
+    tell_decoded(answer, filled, decoded);
+    status
+}
+
 // Decodes a payload by a table in words. `padding` is of 223 bytes. The answer is 0, or the refusal's
 // number; the five numbers are the count of readings, 1 if the working payload is the front of the
 // padding run, and the end in bits, or what the refusal carries.
@@ -71,10 +84,22 @@ pub extern "C" fn samopute_decode(
     ensures { λ r. ⌜ (r ≡ decodedStatus (decodedInto (tableOf (now (words .entry))) (now (payload .entry)) (length (now (padding .entry))) (length (now (readings .entry))))) × ((now (padding .exit) ≡ runAfter (tableOf (now (words .entry))) (now (payload .entry)) (now (padding .entry))) × ((now (readings .exit) ≡ outAfter (tableOf (now (words .entry))) (now (payload .entry)) (length (now (padding .entry))) (now (readings .entry))) × (now (answer .exit) ≡ cellsOf (tableOf (now (words .entry))) (length (now (payload .entry))) (decodedInto (tableOf (now (words .entry))) (now (payload .entry)) (length (now (padding .entry))) (length (now (readings .entry))))))) ⌝ }
 {
     let decoded = records::decode_into(words, payload, padding, readings);
-    let status = status_of(decoded);
-    let filled = filled_by(status, reading::is_filled(words, payload.len()));
-    tell_decoded(answer, filled, decoded);
-    status
+    told(words, payload.len(), decoded, answer)
+}
+
+// The same into an array of C structs, with room for as many readings as it has entries: no count stands in front of them.
+#[no_mangle]
+pub extern "C" fn samopute_decode_run(
+    words: &[u64],
+    payload: &[u8],
+    padding: &mut [u8],
+    readings: &mut [Record],
+    answer: &mut [u64; 5],
+) -> u32
+    ensures { λ r. ⌜ (r ≡ decodedStatus (decodedOf (tableOf (now (words .entry))) (now (payload .entry)) (length (now (padding .entry))) (length (now (readings .entry))))) × ((now (padding .exit) ≡ runAfter (tableOf (now (words .entry))) (now (payload .entry)) (now (padding .entry))) × ((now (readings .exit) ≡ structsAfter (tableOf (now (words .entry))) (now (payload .entry)) (length (now (padding .entry))) (now (readings .entry))) × (now (answer .exit) ≡ cellsOf (tableOf (now (words .entry))) (length (now (payload .entry))) (decodedOf (tableOf (now (words .entry))) (now (payload .entry)) (length (now (padding .entry))) (length (now (readings .entry))))))) ⌝ }
+{
+    let decoded = structs::decode_run(words, payload, padding, readings);
+    told(words, payload.len(), decoded, answer)
 }
 
 // The same by the table that is built in for a PGN; 15 if there is none. None of them fills the
@@ -106,5 +131,5 @@ pub extern "C" fn samopute_decode_pgn(
 pub extern "C" fn samopute_version() -> u32
     ensures { λ r. ⌜ r ≡ versionOf ⌝ }
 {
-    0x1_0001
+    0x1_0002
 }
