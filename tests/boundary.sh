@@ -1,11 +1,11 @@
 #!/usr/bin/env bash
 # The boundary as C and Rust see it: the header, the library by itself, the C example, hostile input, the stack that it
-# takes and the Rust crate. Wants target/staticlib/libsamopute_c.a (rt staticlib samopute_c), or the folder of it in
-# SAMOPUTE_LIB_DIR. Last line: 'N passed, M failed'.
+# takes and the Rust crate. Wants libsamopute_c.a and libsamopute_run.a in target/staticlib (rt staticlib samopute_c,
+# rt staticlib samopute_run), or the folder of them in SAMOPUTE_LIB_DIR. Last line: 'N passed, M failed'.
 set -u
 cd "$(dirname "$0")/.." || exit 1
 folder=$(realpath -m "${SAMOPUTE_LIB_DIR:-target/staticlib}")
-library=$folder/libsamopute_c.a
+libraries=("$folder/libsamopute_run.a" "$folder/libsamopute_c.a")
 cc=${CC:-gcc}
 cxx=${CXX:-g++}
 work=$(mktemp -d)
@@ -73,6 +73,7 @@ static const uint64_t table[] = {
 };
 END
     make_values
+    make_in_place
     cat <<'END'
 int main(void)
 {
@@ -80,6 +81,7 @@ int main(void)
     struct samopute_reading reading;
     uint64_t answer[3];
     int64_t whole = 0;
+    int wrong;
     double number = 0;
     samopute_reading_at(readings, 0, &reading);
     if (samopute_reading_count(readings, sizeof readings) != 1 || reading.field != 5) {
@@ -109,7 +111,11 @@ int main(void)
     if (samopute_check(table, sizeof table / sizeof table[0], answer) != SAMOPUTE_DONE) {
         return 7;
     }
-    return values();
+    if (SAMOPUTE_VERSION != 65538 || samopute_version() != SAMOPUTE_VERSION) {
+        return 13;
+    }
+    wrong = values();
+    return wrong != 0 ? wrong : in_place();
 }
 END
 }
@@ -174,12 +180,62 @@ static int values(void)
 END
 }
 
+# Readings without a copy: a buffer that is a struct, and structs that the library stores.
+make_in_place() {
+    cat <<'END'
+static int in_place(void)
+{
+    static const uint8_t payload[5] = {2, 0xFE, 0xFF, 0xFF, 0x7F};
+    SAMOPUTE_READINGS(3) buffer;
+    const struct samopute_reading *r = &buffer.readings[1];
+    struct samopute_reading run[4];
+    uint8_t padding[SAMOPUTE_PADDING_LENGTH];
+    uint64_t answer[5];
+    double number = 0;
+    if (samopute_decode(table, 4, payload, 5, padding, sizeof padding, (uint8_t *)&buffer, sizeof buffer, answer) !=
+            0 || answer[0] != 3 || buffer.count != 3) {
+        return 14;
+    }
+    if (r->field != 1 || r->element != 0 || r->start != 8 || r->bits != 16 || r->availability != SAMOPUTE_AVAILABLE ||
+        r->value_kind != SAMOPUTE_VALUE_F64 || r->has_raw != 1 || r->has_encoding != 0 || r->raw != 0xFFFE ||
+        r->length != 0 || !samopute_value_double(r, &number) || number != -2 * (double)0.01f) {
+        return 15;
+    }
+    if (r[1].element != 1 || r[1].availability != SAMOPUTE_NOT_AVAILABLE || r[1].raw != 0x7FFF) {
+        return 16;
+    }
+    memset(run, 0x5A, sizeof run);
+    if (samopute_decode_run(table, 4, payload, 5, padding, sizeof padding, run, 4, answer) != 0 || answer[0] != 3 ||
+        memcmp(run, buffer.readings, sizeof buffer.readings) != 0 || run[3].field != 0x5A5A5A5A5A5A5A5A) {
+        return 17;
+    }
+    memset(run, 0x5A, sizeof run);
+    if (samopute_decode_run(table, 4, payload, 5, padding, sizeof padding, run, 2, answer) != SAMOPUTE_NO_ROOM ||
+        answer[0] != 2 || answer[2] != 1 || run[2].field != 0x5A5A5A5A5A5A5A5A) {
+        return 18;
+    }
+    return 0;
+}
+END
+}
+
+# A machine that puts the high byte first has no SAMOPUTE_READINGS: the bytes are other numbers there.
+in_place_by_order() {
+    local order
+    for order in LITTLE BIG; do
+        echo '#include "samopute.h"' | "$cc" -std=c99 -I include -U__BYTE_ORDER__ \
+            "-D__BYTE_ORDER__=__ORDER_${order}_ENDIAN__" -dM -E - >"$work/macros.$order" || return 1
+    done
+    grep -q '^#define SAMOPUTE_READINGS(' "$work/macros.LITTLE" &&
+        ! grep '^#define SAMOPUTE_READINGS(' "$work/macros.BIG"
+}
+
 # header COMPILER FLAGS..: the header compiles without a word, every call is in the library, and the helpers work.
 header() {
     local suffix=c
     case $2 in -std=c++*) suffix=cpp ;; esac
     make_user >"$work/user.$suffix" &&
-        "$@" -Werror -I include "$work/user.$suffix" "$library" -o "$work/user" && "$work/user"
+        "$@" -Werror -I include "$work/user.$suffix" "${libraries[@]}" -o "$work/user" && "$work/user"
 }
 
 # The library's calls are those of the header, no more.
@@ -205,7 +261,7 @@ no_state() {
 
 # example NAME: it prints what its file says.
 example() {
-    "$cc" -std=c99 -Wall -Wextra -Wpedantic -Werror -I include "examples/c/$1.c" "$library" -o "$work/$1" &&
+    "$cc" -std=c99 -Wall -Wextra -Wpedantic -Werror -I include "examples/c/$1.c" "${libraries[@]}" -o "$work/$1" &&
         "$work/$1" >"$work/printed" && diff "$work/printed" "examples/c/$1.stdout"
 }
 
@@ -217,7 +273,7 @@ built() {
         shift
     done
     shift
-    "$cc" -std=c11 -Wall -Wextra -Wpedantic -Werror "${flags[@]}" "tests/$1.c" "$library" -o "$work/$1" || return 1
+    "$cc" -std=c11 -Wall -Wextra -Wpedantic -Werror "${flags[@]}" "tests/$1.c" "${libraries[@]}" -o "$work/$1" || return 1
     local program=$1
     shift
     "$work/$program" "$@"
@@ -250,14 +306,17 @@ rust() {
     fi
 }
 
-if [ ! -f "$library" ]; then
-    failed=1
-    echo "FAILED boundary: libsamopute_c.a is missing: run rt staticlib samopute_c first"
-    finish
-fi
+for library in "${libraries[@]}"; do
+    if [ ! -f "$library" ]; then
+        failed=1
+        name=$(basename "$library" .a)
+        echo "FAILED boundary: $library is missing: run rt staticlib ${name#lib} first"
+        finish
+    fi
+done
 
 if command -v ld >/dev/null && command -v nm >/dev/null && command -v readelf >/dev/null; then
-    test_of "the archive is one object" ld -r --whole-archive "$library" -o "$work/all.o"
+    test_of "the archives go together" ld -r --whole-archive "${libraries[@]}" -o "$work/all.o"
     test_of "the library wants nothing but itself" wants_nothing && told
     test_of "the library has no writable data" no_state
     test_of "the library has the calls of the header, no more" same_calls
@@ -268,7 +327,9 @@ fi
 if command -v "$cc" >/dev/null; then
     test_of "the header in C99" header "$cc" -std=c99 -Wall -Wextra -Wpedantic
     test_of "the header in C11" header "$cc" -std=c11 -Wall -Wextra -Wpedantic
+    test_of "readings in place only where the low byte comes first" in_place_by_order
     test_of "the C example that decodes" example decode
+    test_of "the C example that reads in place" example in_place
     test_of "the C example that encodes" example encode
     test_of "hostile input, $rounds rounds" built -O2 -- hostile "$rounds" 1 && told
     test_of "hostile input under the address checker, $checked_rounds rounds" \

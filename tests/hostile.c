@@ -8,8 +8,8 @@
  *
  * The first two are what holds the library to its word: it is not compiled with the checker, which therefore does not see
  * its loads and stores. What a call answers and what it leaves in each buffer is held too: against the other calls, and
- * against plain models of the bit calls and of encode. A fault or a wrong answer is told with the seed and the round, and
- * ends the run.
+ * against plain models of the bit calls and of encode. A decode into structs is held against one into bytes. A fault or
+ * a wrong answer is told with the seed and the round, and ends the run.
  *
  *     hostile ROUNDS SEED [FIRST]      from round FIRST on (0)
  */
@@ -36,8 +36,9 @@ static uint64_t seed;
 static uint64_t this_round;
 static const char *volatile this_call = "none";
 
-/* How often each status was answered by a decode, by an encode, and by any other call. */
+/* How often each status was answered by a decode, by one into structs, by an encode, and by any other call. */
 static uint64_t decoded[16];
+static uint64_t run_decoded[16];
 static uint64_t encoded[16];
 static uint64_t answered[16];
 
@@ -542,6 +543,138 @@ static void decode_round(struct draws *d)
     }
 }
 
+/* ---- Decode into structs ----------------------------------------------------------------------------------------- */
+
+/* A readings buffer that is read in place: what samopute_decode makes of the same arguments. */
+static SAMOPUTE_READINGS(SAMOPUTE_ROOM_ENOUGH + 1) in_place;
+
+/* A decode into lent structs, and what samopute_decode answers and leaves beside its readings. */
+struct both {
+    struct decode c;
+    size_t room;
+    uint8_t padding[PAYLOAD_MOST];
+    uint32_t status;
+    uint64_t answer[5];
+};
+
+/* None, few, or as many as there can be. */
+static size_t some_room(struct draws *d)
+{
+    if (once_in(d, 16)) {
+        return (size_t)below(d, SAMOPUTE_ROOM_ENOUGH + 2);
+    }
+    return (size_t)below(d, once_in(d, 3) ? 4 : 40);
+}
+
+static void choose_both(struct draws *d, struct both *b)
+{
+    struct decode *c = &b->c;
+    size_t padding = once_in(d, 12) ? (size_t)below(d, PAYLOAD_MOST + 1) : SAMOPUTE_PADDING_LENGTH;
+    size_t structs;
+    b->room = some_room(d);
+    structs = b->room * sizeof(struct samopute_reading);
+    c->by_pgn = 0;
+    c->word_count = some_table(d, c->words);
+    c->payload_length = some_payload(d, c->payload);
+    c->padding_before = some_noise(d, padding);
+    c->readings_before = some_noise(d, structs);
+    c->answer_before = some_noise(d, sizeof c->answer);
+    c->lent[WORDS] = lend(WORDS, c->words, c->word_count * sizeof c->words[0]);
+    c->lent[PAYLOAD] = lend(PAYLOAD, c->payload, c->payload_length);
+    c->lent[PADDING] = lend(PADDING, c->padding_before, padding);
+    c->lent[READINGS] = lend(READINGS, c->readings_before, structs);
+    c->lent[ANSWER] = lend(ANSWER, c->answer_before, sizeof c->answer);
+}
+
+static uint32_t call_decode_run(const struct both *b)
+{
+    const struct lent *l = b->c.lent;
+    this_call = "samopute_decode_run";
+    return samopute_decode_run((const uint64_t *)(const void *)l[WORDS].bytes, b->c.word_count, l[PAYLOAD].bytes,
+                               l[PAYLOAD].length, l[PADDING].bytes, l[PADDING].length,
+                               (struct samopute_reading *)(void *)l[READINGS].bytes, b->room,
+                               (uint64_t *)(void *)l[ANSWER].bytes);
+}
+
+/* The same by samopute_decode. Its records hold before what the structs held. */
+static void call_in_place(struct both *b)
+{
+    const struct decode *c = &b->c;
+    memcpy(b->padding, c->padding_before, c->lent[PADDING].length);
+    memcpy(in_place.readings, c->readings_before, b->room * sizeof in_place.readings[0]);
+    in_place.count = UINT64_MAX;
+    this_call = "samopute_decode";
+    b->status = samopute_decode(c->words, c->word_count, c->payload, c->payload_length, b->padding,
+                                c->lent[PADDING].length, (uint8_t *)&in_place, SAMOPUTE_READINGS_LENGTH(b->room),
+                                b->answer);
+}
+
+static int same_reading(const struct samopute_reading *a, const struct samopute_reading *b)
+{
+    return a->field == b->field && a->element == b->element && a->start == b->start && a->bits == b->bits &&
+           a->availability == b->availability && a->value_kind == b->value_kind && a->has_raw == b->has_raw &&
+           a->has_encoding == b->has_encoding && a->encoding == b->encoding &&
+           same(a->reserved, b->reserved, sizeof a->reserved) && a->raw == b->raw && a->value == b->value &&
+           a->length == b->length;
+}
+
+/* Each struct is its record: byte for byte, and member by member what samopute_reading_at makes of the bytes. */
+static void check_structs(const struct both *b)
+{
+    const struct samopute_reading *structs = (const struct samopute_reading *)(const void *)b->c.lent[READINGS].bytes;
+    const uint8_t *bytes = (const uint8_t *)&in_place;
+    struct samopute_reading r;
+    size_t i;
+    for (i = 0; i < b->c.answer[0]; i++) {
+        samopute_reading_at(bytes, i, &r);
+        hold(same(&structs[i], bytes + SAMOPUTE_READINGS_LENGTH(i), SAMOPUTE_RECORD_LENGTH), "a struct not its record");
+        hold(same_reading(&structs[i], &r), "another struct than samopute_reading_at makes");
+        hold(same_reading(&in_place.readings[i], &r), "another reading in place than samopute_reading_at makes");
+    }
+}
+
+/* The structs past the count, which is 0 with 7 and 8. */
+static void check_kept_structs(const struct both *b)
+{
+    struct lent l = b->c.lent[READINGS];
+    size_t used = (size_t)b->c.answer[0] * sizeof(struct samopute_reading);
+    hold(b->c.answer[0] <= b->room, "more readings than there are structs");
+    hold(b->c.status != 9 || b->c.answer[0] == b->room, "9 with room left");
+    hold(used == l.length || same(l.bytes + used, b->c.readings_before + used, l.length - used),
+         "structs past the readings");
+}
+
+static void check_both(const struct both *b)
+{
+    const struct decode *c = &b->c;
+    int is_early = c->status == 7 || c->status == 8;
+    hold(c->status == b->status, "another status than samopute_decode's");
+    hold(same(c->answer, b->answer, sizeof c->answer), "another answer than samopute_decode's");
+    hold(same(c->lent[PADDING].bytes, b->padding, c->lent[PADDING].length), "another padding than samopute_decode's");
+    hold(!is_early || (c->answer[0] == 0 && same(b->padding, c->padding_before, c->lent[PADDING].length)),
+         "readings or padding touched by 7 or 8");
+    hold(in_place.count == (is_early ? UINT64_MAX : c->answer[0]), "the count in place");
+    check_kept_structs(b);
+    check_structs(b);
+}
+
+static void both_round(struct draws *d)
+{
+    struct both b;
+    int i;
+    choose_both(d, &b);
+    b.c.status = call_decode_run(&b);
+    memcpy(b.c.answer, b.c.lent[ANSWER].bytes, sizeof b.c.answer);
+    tally(run_decoded, b.c.status);
+    hold(same(b.c.lent[WORDS].bytes, b.c.words, b.c.lent[WORDS].length), "words written");
+    hold(same(b.c.lent[PAYLOAD].bytes, b.c.payload, b.c.payload_length), "payload written");
+    call_in_place(&b);
+    check_both(&b);
+    for (i = WORDS; i <= ANSWER; i++) {
+        take_back(b.c.lent[i]);
+    }
+}
+
 /* ---- Encode ------------------------------------------------------------------------------------------------------ */
 
 /* A call: what is lent, what stood there before, and what came of it. */
@@ -983,7 +1116,7 @@ static void check_round(struct draws *d)
 static void run_round(struct draws *d)
 {
     place = (enum place)below(d, PLACES);
-    switch (below(d, 11)) {
+    switch (below(d, 13)) {
     case 0:
     case 1:
         bits_round(d);
@@ -996,6 +1129,10 @@ static void run_round(struct draws *d)
     case 5:
     case 6:
         encode_round(d);
+        break;
+    case 7:
+    case 8:
+        both_round(d);
         break;
     default:
         decode_round(d);
@@ -1031,9 +1168,11 @@ static int met_each(const char *name, const uint64_t *counts, const int *statuse
 static int met_all(void)
 {
     static const int of_decodes[] = {0, 2, 3, 4, 5, 7, 8, 9, 15};
+    static const int of_runs[] = {0, 2, 3, 4, 5, 7, 8, 9};
     static const int of_encodes[] = {0, 2, 3, 5, 7, 8, 10, 11, 12, 13, 15};
     static const int of_others[] = {0, 1, 2, 3, 6, 8, 10, 11};
     return met_each("decodes", decoded, of_decodes, sizeof of_decodes / sizeof of_decodes[0]) &
+           met_each("decodes into structs", run_decoded, of_runs, sizeof of_runs / sizeof of_runs[0]) &
            met_each("encodes", encoded, of_encodes, sizeof of_encodes / sizeof of_encodes[0]) &
            met_each("other calls", answered, of_others, sizeof of_others / sizeof of_others[0]);
 }
@@ -1063,6 +1202,7 @@ int main(int argc, char **argv)
     catch_signals();
     run(rounds, argc == 4 ? strtoull(argv[3], NULL, 10) : 0);
     tell_counts("decodes", decoded);
+    tell_counts("decodes into structs", run_decoded);
     tell_counts("encodes", encoded);
     tell_counts("other calls", answered);
     if (rounds >= ROUNDS_FOR_ALL && !met_all()) {

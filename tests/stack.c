@@ -27,6 +27,7 @@ static uint8_t payload[PAYLOAD_MOST];
 static size_t payload_length;
 static uint8_t padding[SAMOPUTE_PADDING_LENGTH];
 static uint8_t readings[SAMOPUTE_READINGS_LENGTH(SAMOPUTE_ROOM_ENOUGH)];
+static struct samopute_reading structs[SAMOPUTE_ROOM_ENOUGH];
 static uint64_t answer[5];
 static uint64_t numbers[8];
 static struct values values, pgn_values;
@@ -48,6 +49,12 @@ static void decode_pgn(void)
 {
     samopute_decode_pgn((uint32_t)numbers[0], payload, payload_length, padding, sizeof padding, readings,
                         sizeof readings, answer);
+}
+
+static void decode_run(void)
+{
+    samopute_decode_run(words, word_count, payload, payload_length, padding, sizeof padding, structs,
+                        sizeof structs / sizeof structs[0], answer);
 }
 
 static void encode(void)
@@ -108,6 +115,7 @@ static struct measured calls[] = {
     {"nothing, for the frame of the measurement itself", nothing, 0},
     {"samopute_decode", decode, 0},
     {"samopute_decode_pgn", decode_pgn, 0},
+    {"samopute_decode_run", decode_run, 0},
     {"samopute_encode", encode, 0},
     {"samopute_encode_pgn", encode_pgn, 0},
     {"samopute_check", check, 0},

@@ -1,8 +1,8 @@
-//! Links the static library, which `rt` builds at the root of the repository. `SAMOPUTE_LIB_DIR` names another folder.
+//! Links the static libraries, which `rt` builds at the root of the repository. `SAMOPUTE_LIB_DIR` names another folder.
 use std::env;
 use std::path::PathBuf;
 
-const ARCHIVE: &str = "libsamopute_c.a";
+const LIBRARIES: [&str; 2] = ["samopute_run", "samopute_c"];
 
 fn folder() -> PathBuf {
     match env::var_os("SAMOPUTE_LIB_DIR") {
@@ -15,17 +15,19 @@ fn folder() -> PathBuf {
 
 fn main() {
     let folder = folder();
-    let archive = folder.join(ARCHIVE);
     println!("cargo::rerun-if-env-changed=SAMOPUTE_LIB_DIR");
-    println!("cargo::rerun-if-changed={}", archive.display());
-    if !archive.exists() {
-        println!(
-            "cargo::error={} is missing: run `rt staticlib samopute_c` at the root of the repository, \
-             or set SAMOPUTE_LIB_DIR to the folder that has {ARCHIVE}",
-            archive.display()
-        );
-        return;
-    }
     println!("cargo::rustc-link-search=native={}", folder.display());
-    println!("cargo::rustc-link-lib=static=samopute_c");
+    for name in LIBRARIES {
+        let archive = folder.join(format!("lib{name}.a"));
+        println!("cargo::rerun-if-changed={}", archive.display());
+        if !archive.exists() {
+            println!(
+                "cargo::error={} is missing: run `rt staticlib {name}` at the root of the repository, \
+                 or set SAMOPUTE_LIB_DIR to the folder that has it",
+                archive.display()
+            );
+            return;
+        }
+        println!("cargo::rustc-link-lib=static={name}");
+    }
 }

@@ -2,21 +2,19 @@
 
 use core::iter::FusedIterator;
 
-use crate::layout::{word_of, PADDING, RECORD};
+use crate::layout::{PADDING_LENGTH, RECORD};
+use crate::record::Record;
 use crate::refusal::Refusal;
 use crate::sys;
 use crate::table::Table;
 use crate::value::{Availability, Value};
-
-/// The element of a record that is in no set.
-const NO_ELEMENT: u64 = u64::MAX;
 
 /// The buffers of a decode: the padding run, and room for `N` readings of 64 bytes each.
 ///
 /// It can be used again and again; what it answered before is gone then. It can stand anywhere, in a `static` too.
 #[derive(Clone)]
 pub struct Decoder<const N: usize> {
-    padding: [u8; PADDING],
+    padding: [u8; PADDING_LENGTH],
     run: sys::Run<N>,
 }
 
@@ -30,7 +28,7 @@ impl<const N: usize> Decoder<N> {
     /// Buffers without readings.
     pub const fn new() -> Self {
         Decoder {
-            padding: [0; PADDING],
+            padding: [0; PADDING_LENGTH],
             run: sys::Run::new(),
         }
     }
@@ -53,10 +51,10 @@ impl<const N: usize> Decoder<N> {
     pub fn decode_pgn<'a>(&'a mut self, pgn: u32, payload: &'a [u8]) -> Decoded<'a> {
         let mut answer = [0; 5];
         let status = sys::decode_pgn(pgn, payload, &mut self.padding, &mut self.run, &mut answer);
-        self.decoded(status, answer, payload, PADDING)
+        self.decoded(status, answer, payload, PADDING_LENGTH)
     }
 
-    /// The answer, with the working payload: what was received, or the front of the padding run.
+    /// The answer, with the readings that were made.
     fn decoded<'a>(
         &'a self,
         status: u32,
@@ -64,13 +62,38 @@ impl<const N: usize> Decoder<N> {
         payload: &'a [u8],
         length: usize,
     ) -> Decoded<'a> {
-        let [count, filled, a, b, c] = answer;
-        let made = (count as usize).min(N);
-        let is_filled = filled == 1;
+        let outcome = Outcome::new(status, answer, payload, &self.padding, length);
         Decoded {
-            records: &self.run.records[..made],
+            records: &self.run.records[..outcome.count.min(N)],
+            outcome,
+        }
+    }
+}
+
+/// What a decode answers beside its readings.
+#[derive(Clone, Copy)]
+struct Outcome<'a> {
+    count: usize,
+    payload: &'a [u8],
+    is_filled: bool,
+    end: Result<u64, Refusal>,
+}
+
+impl<'a> Outcome<'a> {
+    /// With the working payload: what was received, or the front of the padding run, filled to this length.
+    fn new(
+        status: u32,
+        answer: [u64; 5],
+        payload: &'a [u8],
+        padding: &'a [u8; PADDING_LENGTH],
+        length: usize,
+    ) -> Outcome<'a> {
+        let [count, filled, a, b, c] = answer;
+        let is_filled = filled == 1;
+        Outcome {
+            count: count as usize,
             payload: if is_filled {
-                &self.padding[..length.min(PADDING)]
+                &padding[..length.min(PADDING_LENGTH)]
             } else {
                 payload
             },
@@ -88,33 +111,98 @@ impl<const N: usize> Decoder<N> {
 #[must_use]
 pub struct Decoded<'a> {
     records: &'a [[u8; RECORD]],
-    payload: &'a [u8],
-    is_filled: bool,
-    end: Result<u64, Refusal>,
+    outcome: Outcome<'a>,
 }
 
 impl<'a> Decoded<'a> {
     /// The end in bits, or why there is none.
     pub fn end(&self) -> Result<u64, Refusal> {
-        self.end
+        self.outcome.end
     }
 
     /// The readings in order. A refusal leaves those that were made before it.
     pub fn readings(&self) -> Readings<'a> {
         Readings {
             records: self.records.iter(),
-            payload: self.payload,
+            payload: self.outcome.payload,
         }
     }
 
     /// The payload that the readings stand in: the received one, or the filled one.
     pub fn working_payload(&self) -> &'a [u8] {
-        self.payload
+        self.outcome.payload
     }
 
     /// Whether the payload was filled to the table's length.
     pub fn is_filled(&self) -> bool {
-        self.is_filled
+        self.outcome.is_filled
+    }
+}
+
+/// Reads a payload by a table into a slice of records, which has room for as many readings as it is long. Records after the
+/// last reading stay as they were; refusals 7 and 8 leave all of them and the padding run so.
+///
+/// It answers as [`Decoder::decode`], which is three to five times as fast.
+///
+/// ```
+/// use samopute::{decode_run, Field, Head, Kind, Record, Refusal, Table, PADDING_LENGTH};
+///
+/// let words = [Head::of(2, 0).word(), Field::new(Kind::Number, 8).word(), Field::new(Kind::Number, 8).word()];
+/// let (mut padding, mut records) = ([0; PADDING_LENGTH], [Record::default(); 1]);
+/// let run = decode_run(Table::new(&words), &[7, 8], &mut padding, &mut records);
+/// assert_eq!(run.end(), Err(Refusal::NoRoom { field: 1 }));
+/// assert_eq!(run.records()[0].raw, 7);
+/// ```
+pub fn decode_run<'a>(
+    table: Table<'_>,
+    payload: &'a [u8],
+    padding: &'a mut [u8; PADDING_LENGTH],
+    records: &'a mut [Record],
+) -> DecodedRun<'a> {
+    let mut answer = [0; 5];
+    let status = sys::decode_run(table.words(), payload, padding, records, &mut answer);
+    let outcome = Outcome::new(status, answer, payload, padding, table.length());
+    let made = outcome.count.min(records.len());
+    DecodedRun {
+        records: &records[..made],
+        outcome,
+    }
+}
+
+/// What [`decode_run`] answers: the records that were made, then the end or the refusal.
+#[derive(Clone, Copy)]
+#[must_use]
+pub struct DecodedRun<'a> {
+    records: &'a [Record],
+    outcome: Outcome<'a>,
+}
+
+impl<'a> DecodedRun<'a> {
+    /// The end in bits, or why there is none.
+    pub fn end(&self) -> Result<u64, Refusal> {
+        self.outcome.end
+    }
+
+    /// The records that were made, where they stand. A refusal leaves those that were made before it.
+    pub fn records(&self) -> &'a [Record] {
+        self.records
+    }
+
+    /// The same with types, in order.
+    pub fn readings(&self) -> impl ExactSizeIterator<Item = Reading<'a>> + Clone + 'a {
+        let payload = self.outcome.payload;
+        let records = self.records.iter();
+        records.map(move |record| Reading::of(record, payload))
+    }
+
+    /// The payload that the readings stand in: the received one, or the filled one.
+    pub fn working_payload(&self) -> &'a [u8] {
+        self.outcome.payload
+    }
+
+    /// Whether the payload was filled to the table's length.
+    pub fn is_filled(&self) -> bool {
+        self.outcome.is_filled
     }
 }
 
@@ -144,30 +232,28 @@ impl<'a> Reading<'a> {
     }
 
     /// The reading of a record, whose bytes stand in the payload.
-    fn of(record: &[u8; RECORD], payload: &'a [u8]) -> Reading<'a> {
-        let [availability, kind, has_raw, ..] = word_of(record, 4).to_le_bytes();
-        let bits = word_of(record, 6);
+    fn of(record: &Record, payload: &'a [u8]) -> Reading<'a> {
         Reading {
-            field: word_of(record, 0),
-            element: Some(word_of(record, 1)).filter(|element| *element != NO_ELEMENT),
-            start: word_of(record, 2),
-            bits: word_of(record, 3),
-            availability: Availability::of(availability.into()),
-            raw: (has_raw == 1).then(|| word_of(record, 5)),
+            field: record.field,
+            element: record.in_set(),
+            start: record.start,
+            bits: record.bits,
+            availability: Availability::of(record.availability.into()),
+            raw: (record.has_raw == 1).then_some(record.raw),
             // A kind that is no number's is that of bytes.
-            value: Value::number(kind.into(), bits).unwrap_or_else(|| bytes_of(record, payload)),
+            value: Value::number(record.value_kind.into(), record.value)
+                .unwrap_or_else(|| bytes_of(record, payload)),
         }
     }
 }
 
 /// The bytes of a record. They lie in the payload; if they did not, there would be none.
-fn bytes_of<'a>(record: &[u8; RECORD], payload: &'a [u8]) -> Value<'a> {
-    let [_, _, _, has_encoding, encoding, ..] = word_of(record, 4).to_le_bytes();
-    let (place, length) = (word_of(record, 6) as usize, word_of(record, 7) as usize);
+fn bytes_of<'a>(record: &Record, payload: &'a [u8]) -> Value<'a> {
+    let (place, length) = (record.value as usize, record.length as usize);
     let bytes = payload.get(place..).and_then(|rest| rest.get(..length));
     Value::Bytes {
         bytes: bytes.unwrap_or_default(),
-        encoding: (has_encoding == 1).then_some(encoding),
+        encoding: (record.has_encoding == 1).then_some(record.encoding),
     }
 }
 
@@ -183,7 +269,7 @@ impl<'a> Iterator for Readings<'a> {
 
     fn next(&mut self) -> Option<Reading<'a>> {
         let record = self.records.next()?;
-        Some(Reading::of(record, self.payload))
+        Some(Reading::of(&Record::of(record), self.payload))
     }
 
     fn size_hint(&self) -> (usize, Option<usize>) {

@@ -9,8 +9,8 @@ pub const ROOM_ENOUGH: usize = 1785;
 /// The longest buffer of a bit call, in bytes.
 pub const BUFFER_MAX: usize = 65536;
 
-/// The padding run, in bytes.
-pub(crate) const PADDING: usize = 223;
+/// The padding run, in bytes: where a payload is filled.
+pub const PADDING_LENGTH: usize = 223;
 
 /// A record, in bytes.
 pub(crate) const RECORD: usize = 64;

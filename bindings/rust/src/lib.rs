@@ -42,6 +42,29 @@
 //! assert_eq!(decoded.end().unwrap_err().number(), 4);
 //! ```
 //!
+//! # Readings in a slice of your own
+//!
+//! A [`Decoder`] has its buffers in itself. [`decode_run`] stores records into a slice instead, of any length, and they stay
+//! there.
+//!
+//! ```
+//! use samopute::{decode_run, Field, Head, Kind, Record, Table, Value, PADDING_LENGTH};
+//!
+//! let words = [
+//!     Head::of(2, 0).word(),
+//!     Field::new(Kind::Number, 8).word(),
+//!     Field::new(Kind::Number, 16).word(),
+//! ];
+//! let mut padding = [0; PADDING_LENGTH];
+//! let mut records = vec![Record::default(); 3];
+//! let run = decode_run(Table::new(&words), &[42, 0x34, 0x12], &mut padding, &mut records);
+//! assert_eq!(run.end(), Ok(24));
+//! assert_eq!(run.readings().nth(1).unwrap().value, Value::U16(0x1234));
+//! assert_eq!(run.records().len(), 2);
+//! assert_eq!(records[1].raw, 0x1234); // where the library put it
+//! assert_eq!(records[2], Record::default()); // as it was
+//! ```
+//!
 //! # Values in, frames out
 //!
 //! ```
@@ -103,6 +126,7 @@ mod bits;
 mod decode;
 mod encode;
 mod layout;
+mod record;
 mod refusal;
 #[allow(unsafe_code)]
 mod sys;
@@ -110,9 +134,10 @@ mod table;
 mod value;
 
 pub use crate::bits::{BitReader, BitWriter};
-pub use crate::decode::{Decoded, Decoder, Reading, Readings};
+pub use crate::decode::{decode_run, Decoded, DecodedRun, Decoder, Reading, Readings};
 pub use crate::encode::{Encoder, Full};
-pub use crate::layout::{BUFFER_MAX, PAYLOAD_MAX, ROOM_ENOUGH};
+pub use crate::layout::{BUFFER_MAX, PADDING_LENGTH, PAYLOAD_MAX, ROOM_ENOUGH};
+pub use crate::record::Record;
 pub use crate::refusal::{Refusal, Rule};
 pub use crate::table::{Field, Head, Kind, Resolution, Scaled, Set, Table};
 pub use crate::value::{Availability, Value};
@@ -126,10 +151,10 @@ pub struct Version {
     pub minor: u32,
 }
 
-/// Asks the library for its version. This crate is for 1.1.
+/// Asks the library for its version. This crate is for 1.2.
 ///
 /// ```
-/// assert_eq!(samopute::version(), samopute::Version { major: 1, minor: 1 });
+/// assert_eq!(samopute::version(), samopute::Version { major: 1, minor: 2 });
 /// ```
 pub fn version() -> Version {
     let number = sys::version();

@@ -3,7 +3,8 @@
 //! Each function answers the status and fills `answer`. The library reads nothing outside of the slices that it is lent and
 //! writes nothing outside of the exclusive ones: that is its promise (docs/PROMISES.md), and what makes these calls safe.
 
-use crate::layout::{PADDING, RECORD, VALUE};
+use crate::layout::{PADDING_LENGTH, RECORD, VALUE};
+use crate::record::Record;
 
 /// What a call lays down: a bit call, the table check and the calls on numbers three numbers, a decode five, an encode four.
 pub(crate) type Answer = [u64; 3];
@@ -21,7 +22,7 @@ pub(crate) struct RawField {
 }
 
 mod c {
-    use super::{Answer, DecodeAnswer, EncodeAnswer};
+    use super::{Answer, DecodeAnswer, EncodeAnswer, Record};
 
     // SAFETY: these are the declarations of include/samopute.h, type by type.
     unsafe extern "C" {
@@ -46,6 +47,17 @@ mod c {
             padding_length: usize,
             readings: *mut u8,
             readings_length: usize,
+            answer: *mut DecodeAnswer,
+        ) -> u32;
+        pub fn samopute_decode_run(
+            words: *const u64,
+            word_count: usize,
+            payload: *const u8,
+            payload_length: usize,
+            padding: *mut u8,
+            padding_length: usize,
+            readings: *mut Record,
+            room: usize,
             answer: *mut DecodeAnswer,
         ) -> u32;
         pub fn samopute_encode(
@@ -188,7 +200,7 @@ pub(crate) fn version() -> u32 {
 pub(crate) fn decode<const N: usize>(
     words: &[u64],
     payload: &[u8],
-    padding: &mut [u8; PADDING],
+    padding: &mut [u8; PADDING_LENGTH],
     run: &mut Run<N>,
     answer: &mut DecodeAnswer,
 ) -> u32 {
@@ -213,7 +225,7 @@ pub(crate) fn decode<const N: usize>(
 pub(crate) fn decode_pgn<const N: usize>(
     pgn: u32,
     payload: &[u8],
-    padding: &mut [u8; PADDING],
+    padding: &mut [u8; PADDING_LENGTH],
     run: &mut Run<N>,
     answer: &mut DecodeAnswer,
 ) -> u32 {
@@ -228,6 +240,30 @@ pub(crate) fn decode_pgn<const N: usize>(
             padding.len(),
             readings.as_mut_ptr(),
             readings.len(),
+            answer,
+        )
+    }
+}
+
+pub(crate) fn decode_run(
+    words: &[u64],
+    payload: &[u8],
+    padding: &mut [u8; PADDING_LENGTH],
+    records: &mut [Record],
+    answer: &mut DecodeAnswer,
+) -> u32 {
+    // SAFETY: as in `decode`; a `Record` is the header's struct, member by member, so that its slice is aligned and any
+    // bytes are records.
+    unsafe {
+        c::samopute_decode_run(
+            words.as_ptr(),
+            words.len(),
+            payload.as_ptr(),
+            payload.len(),
+            padding.as_mut_ptr(),
+            padding.len(),
+            records.as_mut_ptr(),
+            records.len(),
             answer,
         )
     }

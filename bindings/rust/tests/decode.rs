@@ -1,7 +1,7 @@
 //! Payloads to readings: good frames, texts, filling, room, and each refusal that a decode can give.
 use samopute::{
-    Availability, Decoded, Decoder, Field, Head, Kind, Reading, Refusal, Resolution, Rule, Set,
-    Table, Value, PAYLOAD_MAX, ROOM_ENOUGH,
+    decode_run, Availability, Decoded, Decoder, Field, Head, Kind, Reading, Record, Refusal,
+    Resolution, Rule, Set, Table, Value, PADDING_LENGTH, PAYLOAD_MAX, ROOM_ENOUGH,
 };
 
 const FRAME: [u8; 8] = [0x2A, 0xFC, 0x5C, 0x3D, 0xC0, 0x98, 0xFF, 0xFF];
@@ -578,4 +578,112 @@ fn a_decoder_can_stand_in_a_static() {
     static READY: Decoder<4> = Decoder::new();
     let mut decoder = READY.clone();
     assert_eq!(decoder.decode_pgn(129026, &FRAME).end(), Ok(64));
+}
+
+/// What no decode stores.
+const POISON: Record = Record {
+    field: 0x5A5A,
+    element: 1,
+    start: 2,
+    bits: 3,
+    availability: 4,
+    value_kind: 5,
+    has_raw: 6,
+    has_encoding: 7,
+    encoding: 8,
+    reserved: [9; 3],
+    raw: 10,
+    value: 11,
+    length: 12,
+};
+
+/// Holds a decode into a slice of so many records against a `Decoder` with as much room.
+fn runs_as_a_decoder<const N: usize>(words: &[u64], payload: &[u8]) {
+    let mut decoder = Decoder::<N>::new();
+    let decoded = decoder.decode(Table::new(words), payload);
+    let (mut padding, mut records) = ([0; PADDING_LENGTH], [POISON; N]);
+    let run = decode_run(Table::new(words), payload, &mut padding, &mut records);
+    let told = format!("room {N}, words {words:X?}, payload {payload:X?}");
+    assert_eq!(run.end(), decoded.end(), "{told}");
+    assert_eq!(run.is_filled(), decoded.is_filled(), "{told}");
+    assert_eq!(run.working_payload(), decoded.working_payload(), "{told}");
+    assert_eq!(run.readings().collect::<Vec<_>>(), all(&decoded), "{told}");
+    let made = run.records().len();
+    assert_eq!(made, decoded.readings().len(), "{told}");
+    assert!(run.records().iter().all(|record| record.reserved == [0; 3]));
+    assert!(records[made..].iter().all(|record| *record == POISON));
+}
+
+#[test]
+fn a_run_of_records_is_what_a_decoder_reads() {
+    let numbers = [
+        Field::new(Kind::Number, 8),
+        Field::new(Kind::Number, 16)
+            .signed()
+            .scaled(Resolution::Double(0.5)),
+        Field::new(Kind::Float, 32),
+    ];
+    let texts = [
+        Field::new(Kind::StringLau, 0),
+        Field::new(Kind::Binary, 16),
+        Field::new(Kind::StringLz, 0),
+    ];
+    let filled = [
+        Head::of(1, 0).filled(16, 2).word(),
+        Field::new(Kind::Binary, 64).word(),
+    ];
+    let broken = plain(&[Field::new(Kind::Decimal, 8)]);
+    let tables: [&[u64]; 6] = [
+        &plain(&numbers),
+        &plain(&texts),
+        &repeated(3),
+        &filled,
+        &broken,
+        &[],
+    ];
+    let payload = [4, 1, b'h', b'i', 9, 8, 2, b'y', b'o', 0xFF, 0xFF, 0x7F, 3];
+    let long = [0; PAYLOAD_MAX + 1];
+    for words in tables {
+        for payload in (0..=payload.len())
+            .map(|end| &payload[..end])
+            .chain([&long[..]])
+        {
+            runs_as_a_decoder::<0>(words, payload);
+            runs_as_a_decoder::<1>(words, payload);
+            runs_as_a_decoder::<2>(words, payload);
+            runs_as_a_decoder::<5>(words, payload);
+        }
+    }
+}
+
+#[test]
+fn records_of_a_run_stand_as_c_has_them() {
+    let words = plain(&[Field::new(Kind::Number, 8), Field::new(Kind::StringLau, 0)]);
+    let (mut padding, mut records) = ([0; PADDING_LENGTH], vec![POISON; 3]);
+    let payload = [0xFF, 4, 1, b'h', b'i'];
+    let run = decode_run(Table::new(&words), &payload, &mut padding, &mut records);
+    assert_eq!(run.end(), Ok(40));
+    let number = Record {
+        element: u64::MAX,
+        bits: 8,
+        availability: 1,
+        value_kind: 4,
+        has_raw: 1,
+        raw: 0xFF,
+        value: 0xFF,
+        ..Record::default()
+    };
+    let text = Record {
+        field: 1,
+        element: u64::MAX,
+        start: 8,
+        bits: 32,
+        value_kind: 11,
+        has_encoding: 1,
+        encoding: 1,
+        value: 3,
+        length: 2,
+        ..Record::default()
+    };
+    assert_eq!(records, [number, text, POISON]);
 }

@@ -1,4 +1,4 @@
--- A decode into a lent run of structs, one walk by hand of the MIR of `decode` here and of `decode_run` of `records`: they differ in what the run holds. The
+-- A decode into a lent run of structs, one walk by hand of the MIR of `decode` here and of `decode_run` of `structs`: they differ in what the run holds. The
 -- run's borrow is opened once, before the loop, and closed once, where the loop is left. A turn lends the padding run on to `turn`, which is covered, and
 -- has it again; then it stores what it makes of the reading, goes on or returns. What turns do to the lists is in `Turns`, with no memory in it.
 -- Assumes nothing.

@@ -1,4 +1,4 @@
--- The built-in tables in words: document 01, the end of "Cases", and the open points 22 and 30.
+-- The built-in tables in words: document 01, the end of "Cases", and docs/MESSAGES.md.
 use Prim.Native.Nat.{ℕ, _+_, _*_, _^_}
 use mathlib.Core.List.{List, [], _∷_}
 

@@ -45,7 +45,7 @@ use Rattle.reading.specs.declared.Prepared.the-variants.{Ready}
 use Rattle.reading.specs.Filling.{workingOf, preparedOf}
 use Rattle.reading.specs.Groups.{notedBy, tooMany}
 use Rattle.reading.specs.Decode.{spanAt, progressAt, settled, oneOf, countOf, beginning, walkOf, readingOf, withReading, readings, spansOf, endOf, readInto, readingsOf}
-use Rattle.reading.specs.Steps.{metBy, metOf, shown, turnOf, nextOf, startOf, goesOn, handed, handedIn}
+use Rattle.reading.specs.Steps.{metBy, metOf, shown, turnOf, nextOf, startOf, goesOn, decodedBy, decodedAt, handed, handedIn}
 use Rattle.reading.proofs.Told.{told, gone}
 use Rattle.reading.proofs.Working.{readied}
 
@@ -249,6 +249,17 @@ module _ (t : Table) (p : Payload) (room : ℕ) where
         turned-by w g (turnOf t p room (w .spot) (w .progress)) refl
         (falls t one count tooMany (small t ok) (w .spot) (w .progress) (g .bounded))
         (meets t one count tooMany Makes makes (w .spot) (w .progress))
+
+    -- a turn that does not go on says what decoding comes to
+    pub comes-to : (w : Walk) (g : Going w) (n : Next) → Turned w g n → goesOn (n .answer) ≡ false → whole ≡ decodedAt n
+    comes-to w g n u o = go (n .answer) refl
+      where
+        go : (a : Answer) → n .answer ≡ a → whole ≡ decodedAt n
+        go (Met r) e = let z : _≡_ {A = Bool} true false = sym (ap goesOn e) ∙ o in let y : _≡_ {A = ℕ} 0 1 = cc in absurd (omega arith)
+        go (Skipped v) e = let z : _≡_ {A = Bool} true false = sym (ap goesOn e) ∙ o in let y : _≡_ {A = ℕ} 0 1 = cc in absurd (omega arith)
+        go Moved e = let z : _≡_ {A = Bool} true false = sym (ap goesOn e) ∙ o in let y : _≡_ {A = ℕ} 0 1 = cc in absurd (omega arith)
+        go Ended e = u .ends e ∙ sym (ap (λ (x : Answer). decodedBy x (n .walk .progress)) e)
+        go (Refused f) e = u .stops f e ∙ sym (ap (λ (x : Answer). decodedBy x (n .walk .progress)) e)
 
     -- what was handed out and what the turns still hand out are all the readings
     handed-rest : (n : ℕ) (w : Walk) (g : Going w) → heft w < n → readings t p (g .done) ++ handedIn t p room n w ≡ all

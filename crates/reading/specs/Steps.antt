@@ -17,6 +17,8 @@ use Rattle.reading.specs.declared.Walk.{Walk}
 use Rattle.reading.specs.declared.Answer.{Answer}
 use Rattle.reading.specs.declared.Answer.the-variants.{Met, Skipped, Moved, Ended, Refused}
 use Rattle.reading.specs.declared.Next.{Next}
+use Rattle.reading.specs.declared.Decoded.{Decoded}
+use Rattle.reading.specs.declared.Decoded.the-variants as decoded
 use Rattle.fields.specs.Payload.{Payload}
 use Rattle.fields.specs.Shapes.{shapeOf}
 use Rattle.reading.specs.Groups.{tooMany}
@@ -67,6 +69,17 @@ goesOn (Skipped v) = true
 goesOn Moved = true
 goesOn Ended = false
 goesOn (Refused f) = false
+
+-- what a decode answers whose last turn this was: the end, or the refusal; and the readings made
+abbrev pub decodedBy : Answer → Progress → Decoded
+decodedBy (Met r) s = decoded.Ended (s .at) (s .made)
+decodedBy (Skipped v) s = decoded.Ended (s .at) (s .made)
+decodedBy Moved s = decoded.Ended (s .at) (s .made)
+decodedBy Ended s = decoded.Ended (s .at) (s .made)
+decodedBy (Refused f) s = decoded.Refused f (s .made)
+
+abbrev pub decodedAt : Next → Decoded
+decodedAt n = decodedBy (n .answer) (n .walk .progress)
 
 -- the reading that a turn hands out, if it does
 abbrev pub handed : Answer → List Reading

@@ -7,7 +7,6 @@ ghost use Rattle.tables.specs.declared.Checked.the-variants as checked;
 ghost use Rattle.fields.specs.Payload.{payloadOf};
 ghost use Rattle.reading.specs.Filling.{runAfter};
 ghost use Rattle.reading.specs.Decode.{walkOf, endOf, decodedOf};
-use crate::Answer;
 use crate::Decoded;
 use crate::Prepared;
 use crate::filling;
@@ -22,26 +21,10 @@ fn walked(words: &[u64], s: &[u8], room: usize) -> Decoded
     loop {
         let next = turns::next_field(words, s, room, walk);
         let answer = next.answer;
-        walk = next.walk;
-        let progress = walk.progress;
-        let at = progress.at;
-        let made = progress.made;
-        match answer {
-            Answer::Met(_) => {}
-            Answer::Skipped(_) => {}
-            Answer::Moved => {}
-            Answer::Ended => {
-                return Decoded::Ended {
-                    end: at,
-                    count: made,
-                };
-            }
-            Answer::Refused(refusal) => {
-                return Decoded::Refused {
-                    refusal,
-                    count: made,
-                };
-            }
+        if turns::goes_on(answer) {
+            walk = next.walk;
+        } else {
+            return turns::decoded_at(next);
         }
     }
 }

@@ -10,8 +10,9 @@ ghost use Rattle.fields.specs.Shapes.{shapeOf};
 ghost use Rattle.fields.specs.Content.{rawIn, valueIn};
 ghost use Rattle.reading.specs.Groups.{tooMany};
 ghost use Rattle.reading.specs.Decode.{oneOf, countOf, readingOf};
-ghost use Rattle.reading.specs.Steps.{nextTo, shown, nextOf, startOf};
+ghost use Rattle.reading.specs.Steps.{nextTo, shown, nextOf, startOf, goesOn, decodedAt};
 use crate::Answer;
+use crate::Decoded;
 use crate::GroupCount;
 use crate::Next;
 use crate::Progress;
@@ -239,5 +240,36 @@ pub fn next_field(words: &[u64], s: &[u8], room: usize, walk: Walk) -> Next
             element,
             offset,
         } => within(words, s, room, set, count, element, offset, p, here),
+    }
+}
+
+// Whether the walk goes on after a turn.
+pub fn goes_on(answer: Answer) -> bool
+    ensures { λ r. ⌜ r ≡ goesOn answer ⌝ }
+{
+    match answer {
+        Answer::Met(_) => true,
+        Answer::Skipped(_) => true,
+        Answer::Moved => true,
+        Answer::Ended => false,
+        Answer::Refused(_) => false,
+    }
+}
+
+// What a decode answers whose last turn this was.
+pub fn decoded_at(next: Next) -> Decoded
+    ensures { λ r. ⌜ r ≡ decodedAt next ⌝ }
+{
+    let answer = next.answer;
+    let walk = next.walk;
+    let progress = walk.progress;
+    let end = progress.at;
+    let count = progress.made;
+    match answer {
+        Answer::Met(_) => Decoded::Ended { end, count },
+        Answer::Skipped(_) => Decoded::Ended { end, count },
+        Answer::Moved => Decoded::Ended { end, count },
+        Answer::Ended => Decoded::Ended { end, count },
+        Answer::Refused(refusal) => Decoded::Refused { refusal, count },
     }
 }

@@ -8,18 +8,15 @@ use lib.ListN.{length}
 use Rattle.tables.specs.Table.{Table}
 use Rattle.tables.specs.Check.{checkOf}
 use Rattle.tables.specs.declared.Checked.the-variants.{Accepted}
-use Rattle.fields.specs.declared.DecodeRefusal.{DecodeRefusal}
 use Rattle.fields.specs.Payload.{Payload}
 use Rattle.reading.specs.declared.Reading.{Reading}
 use Rattle.reading.specs.declared.Walk.{Walk}
 use Rattle.reading.specs.declared.Next.{Next}
 use Rattle.reading.specs.declared.Answer.{Answer}
-use Rattle.reading.specs.declared.Answer.the-variants.{Ended, Refused}
-use Rattle.reading.specs.declared.Decoded.{Decoded}
-use Rattle.reading.specs.declared.Decoded.the-variants as decoded
+use Rattle.reading.specs.declared.Answer.the-variants.{Met, Skipped, Moved, Ended, Refused}
 use Rattle.reading.specs.Decode.{walkOf, readings, spansOf, endOf}
-use Rattle.reading.specs.Steps.{nextOf, startOf, goesOn, handed}
-use Rattle.reading.proofs.Looped.{Going, heft, going, Turned, turned}
+use Rattle.reading.specs.Steps.{nextOf, startOf, goesOn, decodedAt, handed}
+use Rattle.reading.proofs.Looped.{Going, heft, going, Turned, turned, comes-to}
 use Rattle.records.specs.Stretches.{stored, Leads}
 use Rattle.records.proofs.Quickly.{stored-then, stored-none}
 use Rattle.records.proofs.Leading.{Further, further}
@@ -27,6 +24,14 @@ use Rattle.records.proofs.Leading.{Further, further}
 no-more : (rs : List Reading) → length rs ≡ 0 → rs ≡ []
 no-more [] h = refl
 no-more (r ∷ rs) h = absurd (omega (arith, h))
+
+-- a turn that does not go on hands out nothing
+none-handed : (a : Answer) → goesOn a ≡ false → handed a ≡ []
+none-handed (Met r) o = let y : _≡_ {A = ℕ} 0 1 = cc in absurd (omega arith)
+none-handed (Skipped v) o = refl
+none-handed Moved o = refl
+none-handed Ended o = refl
+none-handed (Refused f) o = refl
 
 module _ (t : Table) (p : Payload) (room : ℕ) (out₀ : List ℕ) where
   pub record Storing (w : Walk) (out : List ℕ) : Type 0 where
@@ -63,8 +68,7 @@ module _ (t : Table) (p : Payload) (room : ℕ) (out₀ : List ℕ) where
     -- and one that does not
     pub record Next-last (n : Next) (out : List ℕ) : Type 0 where
       pub puts : out ≡ stored out₀ 0 (readings t p (spansOf (walkOf t p room)))
-      pub ends : n .answer ≡ Ended → endOf t p (walkOf t p room) ≡ decoded.Ended (n .walk .progress .at) (n .walk .progress .made)
-      pub stops : (f : DecodeRefusal) → n .answer ≡ Refused f → endOf t p (walkOf t p room) ≡ decoded.Refused f (n .walk .progress .made)
+      pub ends : endOf t p (walkOf t p room) ≡ decodedAt n
 
     module _ (w : Walk) (out : List ℕ) (h : Storing w out) (n : Next) (same : n ≡ nextOf t p room w) (out′ : List ℕ) (e : out′ ≡ stored out (w .progress .made) (handed (n .answer))) where
       after : Turned t p room w (h .still) n
@@ -75,11 +79,11 @@ module _ (t : Table) (p : Payload) (room : ℕ) (out₀ : List ℕ) where
           let y = after .on o in
           record { storing = record { still = y .still; puts = storing-more w out h (handed (n .answer)) (readings t p (y .still .done)) out′ e (y .hands) }; less = y .less }
 
-      pub next-last : goesOn (n .answer) ≡ false → handed (n .answer) ≡ [] → Next-last n out′
-      next-last o q =
+      pub next-last : goesOn (n .answer) ≡ false → Next-last n out′
+      next-last o =
+          let q = none-handed (n .answer) o in
           let k : readings t p (spansOf (walkOf t p room)) ≡ readings t p (h .still .done) = after .last o in
           record {
             puts = storing-more w out h (handed (n .answer)) (readings t p (spansOf (walkOf t p room))) out′ e (k ∙ sym (ap (λ (l : List Reading). readings t p (h .still .done) ++ l) q ∙ append-nil (readings t p (h .still .done))));
-            ends = after .ends;
-            stops = after .stops;
+            ends = comes-to t p room ok w (h .still) n after o;
           }

@@ -226,26 +226,10 @@ pub(crate) fn store(words: &[u64], s: &[u8], room: usize, out: &mut [u8]) -> Dec
         walk = quickly(words, s, room, walk, out);
         let next = turn(words, s, room, walk, out);
         let answer = next.answer;
-        walk = next.walk;
-        let progress = walk.progress;
-        let at = progress.at;
-        let made = progress.made;
-        match answer {
-            Answer::Met(_) => {}
-            Answer::Skipped(_) => {}
-            Answer::Moved => {}
-            Answer::Ended => {
-                return Decoded::Ended {
-                    end: at,
-                    count: made,
-                };
-            }
-            Answer::Refused(refusal) => {
-                return Decoded::Refused {
-                    refusal,
-                    count: made,
-                };
-            }
+        if reading::goes_on(answer) {
+            walk = next.walk;
+        } else {
+            return reading::decoded_at(next);
         }
     }
 }

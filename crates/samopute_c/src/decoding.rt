@@ -4,14 +4,11 @@ ghost use mathlib.Core.Path.{_≡_};
 ghost use lib.ListN.{length};
 ghost use Rattle.tables.specs.Table.{tableOf};
 ghost use Rattle.reading.specs.Filling.{runAfter};
-ghost use Rattle.reading.specs.Decode.{decodedOf};
-ghost use Rattle.structs.specs.Structs.{structsAfter};
 ghost use Rattle.records.specs.Into.{decodedInto, outAfter};
 ghost use Rattle.records.specs.Pgn.{byPgnOf, outByPgn};
 ghost use Rattle.samopute_c.specs.Decodes.{decodedStatus, decodedCells, filledBy, cellsOf, pgnStatus, pgnCells, versionOf};
 use reading::Decoded;
 use records::ByPgn;
-use structs::Record;
 
 // 0, or the refusal's number.
 fn status_of(decoded: Decoded) -> u32
@@ -61,7 +58,7 @@ fn tell_decoded(answer: &mut [u64; 5], filled: u64, decoded: Decoded)
 }
 
 // The status of a decode of so many bytes, and its answer laid out.
-fn told(words: &[u64], received: usize, decoded: Decoded, answer: &mut [u64; 5]) -> u32
+pub fn told(words: &[u64], received: usize, decoded: Decoded, answer: &mut [u64; 5]) -> u32
     ensures { λ r. ⌜ (r ≡ decodedStatus decoded) × (now (answer .exit) ≡ cellsOf (tableOf (now (words .entry))) received decoded) ⌝ }
 {
     let status = status_of(decoded);
@@ -84,21 +81,6 @@ pub extern "C" fn samopute_decode(
     ensures { λ r. ⌜ (r ≡ decodedStatus (decodedInto (tableOf (now (words .entry))) (now (payload .entry)) (length (now (padding .entry))) (length (now (readings .entry))))) × ((now (padding .exit) ≡ runAfter (tableOf (now (words .entry))) (now (payload .entry)) (now (padding .entry))) × ((now (readings .exit) ≡ outAfter (tableOf (now (words .entry))) (now (payload .entry)) (length (now (padding .entry))) (now (readings .entry))) × (now (answer .exit) ≡ cellsOf (tableOf (now (words .entry))) (length (now (payload .entry))) (decodedInto (tableOf (now (words .entry))) (now (payload .entry)) (length (now (padding .entry))) (length (now (readings .entry))))))) ⌝ }
 {
     let decoded = records::decode_into(words, payload, padding, readings);
-    told(words, payload.len(), decoded, answer)
-}
-
-// The same into an array of C structs, with room for as many readings as it has entries: no count stands in front of them.
-#[no_mangle]
-pub extern "C" fn samopute_decode_run(
-    words: &[u64],
-    payload: &[u8],
-    padding: &mut [u8],
-    readings: &mut [Record],
-    answer: &mut [u64; 5],
-) -> u32
-    ensures { λ r. ⌜ (r ≡ decodedStatus (decodedOf (tableOf (now (words .entry))) (now (payload .entry)) (length (now (padding .entry))) (length (now (readings .entry))))) × ((now (padding .exit) ≡ runAfter (tableOf (now (words .entry))) (now (payload .entry)) (now (padding .entry))) × ((now (readings .exit) ≡ structsAfter (tableOf (now (words .entry))) (now (payload .entry)) (length (now (padding .entry))) (now (readings .entry))) × (now (answer .exit) ≡ cellsOf (tableOf (now (words .entry))) (length (now (payload .entry))) (decodedOf (tableOf (now (words .entry))) (now (payload .entry)) (length (now (padding .entry))) (length (now (readings .entry))))))) ⌝ }
-{
-    let decoded = structs::decode_run(words, payload, padding, readings);
     told(words, payload.len(), decoded, answer)
 }
 

@@ -4,8 +4,8 @@
 // says. A status is 0 or document 01's number of the refusal. A bit call's lent `answer` gets the
 // cursor after the call, then the number read (or the start and the length of the part), or what the
 // refusal carries. A field goes in as five numbers and a value as two, its kind's code and 64 bits,
-// none of which is cut to low bits. Readings come out as records of 64 bytes, in bytes or as an array of C
-// structs, and the values of an encode go in as records of 24. No call has a `requires`. A slice is a pointer and a length, and
+// none of which is cut to low bits. Readings come out as records of 64 bytes, and the values of an
+// encode go in as records of 24. No call has a `requires`. A slice is a pointer and a length, and
 // `answer` a pointer to as many numbers as its type says.
 ghost use mathlib.Core.Path.{_≡_};
 ghost use lib.ListN.{length};
@@ -27,8 +27,8 @@ mod writes;
 pub use crate::checking::samopute_check;
 pub use crate::decoding::samopute_decode;
 pub use crate::decoding::samopute_decode_pgn;
-pub use crate::decoding::samopute_decode_run;
 pub use crate::decoding::samopute_version;
+pub use crate::decoding::told;
 pub use crate::encoding::samopute_encode;
 pub use crate::encoding::samopute_encode_pgn;
 pub use crate::scaling::samopute_raw_of;

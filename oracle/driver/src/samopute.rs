@@ -189,6 +189,45 @@ pub fn check(words: &[u64], answer: &mut Answer) -> u32 {
     unsafe { tables_c::samopute_check(words.as_ptr(), words.len(), answer) }
 }
 
+/// A reading as C has it. It takes 64 bytes, none of which is padding.
+#[derive(Clone, Copy, Debug, PartialEq, Eq)]
+#[repr(C)]
+pub struct CReading {
+    pub field: u64,
+    pub element: u64,
+    pub start: u64,
+    pub bits: u64,
+    pub availability: u8,
+    pub value_kind: u8,
+    pub has_raw: u8,
+    pub has_encoding: u8,
+    pub encoding: u8,
+    pub reserved: [u8; 3],
+    pub raw: u64,
+    pub value: u64,
+    pub length: u64,
+}
+
+// Where the low byte of a number comes first, a struct is the numbers of its record.
+#[cfg(not(target_endian = "little"))]
+compile_error!("the library under test is for x86-64");
+
+impl CReading {
+    pub const EMPTY: CReading = CReading::of([0; 8]);
+
+    /// The struct of a record's numbers.
+    pub const fn of(numbers: [u64; 8]) -> CReading {
+        // SAFETY: both are 64 bytes without padding, and any bytes are a struct.
+        unsafe { std::mem::transmute(numbers) }
+    }
+
+    /// The numbers of the record.
+    pub const fn numbers(self) -> [u64; 8] {
+        // SAFETY: both are 64 bytes without padding, and any bytes are numbers.
+        unsafe { std::mem::transmute(self) }
+    }
+}
+
 /// What a decode fills in: the count of readings, whether the padding run holds the working payload, and
 /// the end or what the refusal carries.
 pub type Decoded = [u64; 5];
@@ -206,6 +245,18 @@ mod decode_c {
             padding_length: usize,
             readings: *mut u8,
             readings_length: usize,
+            answer: *mut super::Decoded,
+        ) -> u32;
+
+        pub fn samopute_decode_run(
+            words: *const u64,
+            word_count: usize,
+            payload: *const u8,
+            payload_length: usize,
+            padding: *mut u8,
+            padding_length: usize,
+            readings: *mut super::CReading,
+            room: usize,
             answer: *mut super::Decoded,
         ) -> u32;
 
@@ -228,7 +279,7 @@ pub fn version() -> u32 {
     unsafe { decode_c::samopute_version() }
 }
 
-// SAFETY, for both decodes: as above, and `answer` has room for five numbers.
+// SAFETY, for the decodes: as above, and `answer` has room for five numbers.
 
 /// 0, or the refusal. The readings are a count and records of 64 bytes.
 pub fn decode(
@@ -240,6 +291,29 @@ pub fn decode(
 ) -> u32 {
     unsafe {
         decode_c::samopute_decode(
+            words.as_ptr(),
+            words.len(),
+            payload.as_ptr(),
+            payload.len(),
+            padding.as_mut_ptr(),
+            padding.len(),
+            readings.as_mut_ptr(),
+            readings.len(),
+            answer,
+        )
+    }
+}
+
+/// The same into structs, without a count.
+pub fn decode_run(
+    words: &[u64],
+    payload: &[u8],
+    padding: &mut [u8],
+    readings: &mut [CReading],
+    answer: &mut Decoded,
+) -> u32 {
+    unsafe {
+        decode_c::samopute_decode_run(
             words.as_ptr(),
             words.len(),
             payload.as_ptr(),

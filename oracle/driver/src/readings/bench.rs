@@ -9,7 +9,7 @@ use super::boundary::records::{COUNT, RECORD};
 use super::oracles::rust;
 use crate::cases::SEED;
 use crate::random::Random;
-use crate::samopute;
+use crate::samopute::{self, CReading};
 use crate::tables::built_in::table_129029;
 use crate::tables::words::pack;
 use check::check;
@@ -27,8 +27,8 @@ const ROUNDS: usize = 15;
 const STATIONS: [usize; 3] = [0, 2, 10];
 const PGN: u32 = 129_029;
 
-/// Ours in two ways, the Rust in two, and the plain decoder.
-const SIDES: usize = 5;
+/// Ours in three ways, the Rust in two, and the plain decoder.
+const SIDES: usize = 6;
 
 /// The sides take turns after so many payloads, so that a slow spell of the machine hits all.
 const TURN: usize = 1000;
@@ -70,6 +70,7 @@ pub fn run(payloads: usize) {
         check(&words, table, first.expect("there are payloads"));
         let works: [&dyn Fn(Part) -> usize; SIDES] = [
             &|part| by_words(&words, part),
+            &|part| by_run(&words, part),
             &by_pgn,
             &|part| by_rust(table, part),
             &|part| by_rust_kept(table, part),
@@ -81,10 +82,12 @@ pub fn run(payloads: usize) {
     }
 }
 
-fn print_times(stations: usize, [words, pgn, rust, kept, plain]: [f64; SIDES]) {
+fn print_times(stations: usize, [words, run, pgn, rust, kept, plain]: [f64; SIDES]) {
     println!(
-        "{stations} stations: ours {words:.1}, by PGN {pgn:.1}; Rust {rust:.1} (ratio {:.2}), \
+        "{stations} stations: ours {words:.1}, into structs {run:.1} (of ours {:.2}), \
+         by PGN {pgn:.1}; Rust {rust:.1} (ratio {:.2}), \
          Rust kept {kept:.1} (ratio {:.2}), plain {plain:.1} (ratio {:.1})",
+        run / words,
         words / rust,
         words / kept,
         words / plain,
@@ -137,6 +140,19 @@ fn by_words(words: &[u64], part: Part) -> usize {
         assert_eq!(status, 0);
         black_box(&lent);
         count += lent.answer[0] as usize;
+    }
+    count
+}
+
+/// Ours with the table in words, into structs.
+fn by_run(words: &[u64], part: Part) -> usize {
+    let (mut padding, mut structs, mut answer) = ([0; PADDING], [CReading::EMPTY; MOST], [0; 5]);
+    let mut count = 0;
+    for payload in part.payloads() {
+        let status = samopute::decode_run(words, payload, &mut padding, &mut structs, &mut answer);
+        assert_eq!(status, 0);
+        black_box((&padding, &structs));
+        count += answer[0] as usize;
     }
     count
 }

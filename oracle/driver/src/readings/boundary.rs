@@ -5,4 +5,5 @@ mod call;
 pub mod compare;
 pub mod lent;
 pub mod records;
+mod run;
 pub mod unknown;

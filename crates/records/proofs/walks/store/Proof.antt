@@ -1,7 +1,6 @@
 -- `records::walks::store` meets its contract: what is stored are the readings made so far. Assumes nothing.
 use mathlib.Core.Path.{_≡_, sym, ap, _∙_, subst}
 use mathlib.Core.Bool.{true, false}
-use mathlib.Core.List.{[]}
 use native.Mathlib.Omega.{arith}
 use denote.Ref.{now}
 use lib.ListN.{length}
@@ -10,7 +9,7 @@ use Rattle.tables.specs.Check.{checkOf}
 use Rattle.tables.specs.declared.Checked.the-variants.{Accepted}
 use Rattle.fields.specs.Payload.{payloadOf}
 use Rattle.reading.specs.declared.Walk.{Walk}
-use Rattle.reading.specs.Steps.{goesOn, handed}
+use Rattle.reading.specs.Steps.{goesOn}
 use Rattle.reading.proofs.Looped.{heft}
 use Rattle.records.specs.Stretches.{Roomy}
 use Rattle.records.proofs.Quickly.{roomy-on, length-stored}
@@ -52,13 +51,13 @@ step w o =
 
 -- after the last turn
 stop : (w : tie.After-turn Inv-loop μ-loop) → let l = w .before .before .before .before .before .before in let a = l .before .before .before .before .before .args in
-    goesOn (w .turn .result .answer) ≡ false → handed (w .turn .result .answer) ≡ []
+    goesOn (w .turn .result .answer) ≡ false
     → Next-last (tableOf (now (a .words))) (payloadOf (now (a .s))) (a .room) (now (a .out)) (l .loop .inv .0) (w .turn .result) (w .turn .last .1 .1 .1 .1 .0)
-stop w o e =
+stop w o =
     let q = w .before .before .before .before in
     let l = q .before .before in
     let a = l .before .before .before .before .before .args in
-    next-last (tableOf (now (a .words))) (payloadOf (now (a .s))) (a .room) (now (a .out)) (l .loop .inv .0) (q .quickly .result) _ (on q .storing) (w .turn .result) (w .turn .ensures .0) _ (w .turn .ensures .1) o e
+    next-last (tableOf (now (a .words))) (payloadOf (now (a .s))) (a .room) (now (a .out)) (l .loop .inv .0) (q .quickly .result) _ (on q .storing) (w .turn .result) (w .turn .ensures .0) _ (w .turn .ensures .1) o
 
 start-requires : tie.Need-start-requires Inv-loop μ-loop
 start-requires c κs = search needs
@@ -79,114 +78,38 @@ quickly-requires c κs = c .before .loop .inv .1 .0
 turn-requires : tie.Need-turn-requires Inv-loop μ-loop
 turn-requires c κs = roomy (c .before .before .before)
 
-enum-told : tie.Need-enum-told Inv-loop μ-loop
-enum-told c = search needs
+-- the test that it passed
+passed : (c : tie.After-walk Inv-loop μ-loop) → goesOn (c .before .before .before .before .before .turn .result .answer) ≡ true
+passed c = sym (c .before .before .goes-on .ensures) ∙ c .before .if1 .taken
+
+goes-on-requires : tie.Need-goes-on-requires Inv-loop μ-loop
+goes-on-requires c κs = search needs
 
 loop-less : tie.Need-loop-less Inv-loop μ-loop
 loop-less c =
-    let w = c .before .before .before .before .before .before .before in
-    let y = step w (ap goesOn (c .enum-told .given .1)) in
+    let w = c .before .before .before .before .before in
     let d = on (w .before .before .before .before) .less in
-    let e = y .less in
+    let e = step w (passed c) .less in
     omega (arith, d, e)
 
 loop-again : tie.Need-loop-again Inv-loop μ-loop
 loop-again c =
-    let w = c .before .before .before .before .before .before .before in
-    let y = step w (ap goesOn (c .enum-told .given .1)) in
+    let w = c .before .before .before .before .before in
     let q = w .before .before .before .before in
     let l = q .before .before in
     let a = l .before .before .before .before .before .args in
-    (l .loop .inv .0, (roomy-on (a .room) (q .quickly .last .1 .1 .1 .1 .0) _ _ _ (roomy q) (w .turn .ensures .1), y .storing))
+    (l .loop .inv .0, (roomy-on (a .room) (q .quickly .last .1 .1 .1 .1 .0) _ _ _ (roomy q) (w .turn .ensures .1), step w (passed c) .storing))
 
-enum-told-2 : tie.Need-enum-told-2 Inv-loop μ-loop
-enum-told-2 c = search needs
-
-loop-less-2 : tie.Need-loop-less-2 Inv-loop μ-loop
-loop-less-2 c =
-    let w = c .before .before .before .before .before .before .before in
-    let y = step w (ap goesOn (c .enum-told2 .given .1)) in
-    let d = on (w .before .before .before .before) .less in
-    let e = y .less in
-    omega (arith, d, e)
-
-loop-again-2 : tie.Need-loop-again-2 Inv-loop μ-loop
-loop-again-2 c =
-    let w = c .before .before .before .before .before .before .before in
-    let y = step w (ap goesOn (c .enum-told2 .given .1)) in
-    let q = w .before .before .before .before in
-    let l = q .before .before in
-    let a = l .before .before .before .before .before .args in
-    (l .loop .inv .0, (roomy-on (a .room) (q .quickly .last .1 .1 .1 .1 .0) _ _ _ (roomy q) (w .turn .ensures .1), y .storing))
-
-enum-told-3 : tie.Need-enum-told-3 Inv-loop μ-loop
-enum-told-3 c = search needs
-
-loop-less-3 : tie.Need-loop-less-3 Inv-loop μ-loop
-loop-less-3 c =
-    let w = c .before .before .before .before .before .before .before in
-    let y = step w (ap goesOn (c .enum-told3 .given .1)) in
-    let d = on (w .before .before .before .before) .less in
-    let e = y .less in
-    omega (arith, d, e)
-
-loop-again-3 : tie.Need-loop-again-3 Inv-loop μ-loop
-loop-again-3 c =
-    let w = c .before .before .before .before .before .before .before in
-    let y = step w (ap goesOn (c .enum-told3 .given .1)) in
-    let q = w .before .before .before .before in
-    let l = q .before .before in
-    let a = l .before .before .before .before .before .args in
-    (l .loop .inv .0, (roomy-on (a .room) (q .quickly .last .1 .1 .1 .1 .0) _ _ _ (roomy q) (w .turn .ensures .1), y .storing))
-
-enum-told-4 : tie.Need-enum-told-4 Inv-loop μ-loop
-enum-told-4 c = search needs
+decoded-at-requires : tie.Need-decoded-at-requires Inv-loop μ-loop
+decoded-at-requires c κs = search needs
 
 same-length : tie.Need-same-length Inv-loop μ-loop
-same-length c =
-    let y = stop (c .before .before .before .before .before .before .before) (ap goesOn (c .enum-told4 .given .1)) (ap handed (c .enum-told4 .given .1)) in
-    ap length (y .puts) ∙ length-stored _ 0 _
+same-length c = ap length (stop (c .before .before .before .before .before) (sym (c .before .before .goes-on .ensures) ∙ c .before .if1 .left) .puts) ∙ length-stored _ 0 _
 
 returns : tie.Need-returns Inv-loop μ-loop
 returns c =
-    let y = stop (c .before .before .before .before .before .before .before) (ap goesOn (c .enum-told4 .given .1)) (ap handed (c .enum-told4 .given .1)) in
-    (sym (y .ends (c .enum-told4 .given .1)), y .puts)
-
-enum-known-answer : tie.Need-enum-known-answer Inv-loop μ-loop
-enum-known-answer c = search needs
-
-same-length-2 : tie.Need-same-length-2 Inv-loop μ-loop
-same-length-2 c =
-    let y = stop (c .before .before .before .before .before .before .before .before) (ap goesOn (c .before .answer .given .1)) (ap handed (c .before .answer .given .1)) in
-    ap length (y .puts) ∙ length-stored _ 0 _
-
-returns-2 : tie.Need-returns-2 Inv-loop μ-loop
-returns-2 c =
-    let y = stop (c .before .before .before .before .before .before .before .before) (ap goesOn (c .before .answer .given .1)) (ap handed (c .before .answer .given .1)) in
-    (sym (y .stops _ (c .before .answer .given .1)), y .puts)
+    let y = stop (c .before .before .before .before .before) (sym (c .before .before .goes-on .ensures) ∙ c .before .if1 .left) in
+    (c .decoded-at .ensures ∙ sym (y .ends), y .puts)
 
 pub store-spec : {M : Type 1} → statement M
-store-spec =
-    tie.close
-    (tie.spec
-    Inv-loop
-    μ-loop
-    start-requires
-    loop-holds
-    quickly-requires
-    turn-requires
-    enum-told
-    loop-less
-    loop-again
-    enum-told-2
-    loop-less-2
-    loop-again-2
-    enum-told-3
-    loop-less-3
-    loop-again-3
-    enum-told-4
-    same-length
-    returns
-    enum-known-answer
-    same-length-2
-    returns-2)
+store-spec = tie.close (tie.spec Inv-loop μ-loop start-requires loop-holds quickly-requires turn-requires goes-on-requires loop-less loop-again decoded-at-requires same-length returns)

@@ -5,9 +5,9 @@ use super::plain::{self, Position};
 use super::positions::Part;
 use super::{Lent, MOST, PGN};
 use crate::readings::boundary::records::{self, COUNT, RECORD};
-use crate::samopute::{self, Decoded};
+use crate::samopute::{self, CReading, Decoded};
 use korri_n2k::core::PgnDescriptor;
-use model::reading::{Content, Reading};
+use model::reading::{Content, PADDING, Reading};
 
 pub fn check(words: &[u64], table: &'static PgnDescriptor, part: Part) {
     for payload in part.payloads() {
@@ -16,6 +16,11 @@ pub fn check(words: &[u64], table: &'static PgnDescriptor, part: Part) {
             samopute::decode(words, payload, padding, readings, answer)
         });
         assert_eq!(by_words, rust, "ours and the Rust");
+        assert_eq!(
+            by_run(words, payload),
+            rust,
+            "ours into structs and the Rust"
+        );
         let by_pgn = by_ours(|padding, readings, answer| {
             samopute::decode_pgn(PGN, payload, padding, readings, answer)
         });
@@ -37,11 +42,20 @@ fn by_ours(call: impl Fn(&mut [u8], &mut [u8], &mut Decoded) -> u32) -> Vec<Kept
     assert_eq!(status, 0);
     let (records, _) = lent.readings[COUNT..].as_chunks::<RECORD>();
     let records = records.iter().take(lent.answer[0] as usize);
-    records.map(kept).collect()
+    records.map(|one| kept(records::numbers(one))).collect()
 }
 
-fn kept(record: &[u8; RECORD]) -> Kept {
-    let reading = records::reading(records::numbers(record)).expect("a reading");
+fn by_run(words: &[u64], payload: &[u8]) -> Vec<Kept> {
+    let (mut padding, mut answer) = ([0; PADDING], [0; 5]);
+    let mut structs = [CReading::EMPTY; MOST];
+    let status = samopute::decode_run(words, payload, &mut padding, &mut structs, &mut answer);
+    assert_eq!(status, 0);
+    let structs = structs.iter().take(answer[0] as usize);
+    structs.map(|one| kept(one.numbers())).collect()
+}
+
+fn kept(numbers: [u64; 8]) -> Kept {
+    let reading = records::reading(numbers).expect("a reading");
     let Reading {
         content: Content::Number { raw, value },
         ..

@@ -6,27 +6,29 @@ use crate::readings::by_hand;
 use crate::readings::case::{AMPLE, Case};
 use crate::readings::sides::Given;
 use crate::report::Report;
-use crate::samopute;
+use crate::samopute::{self, CReading};
 use crate::tables::built_in::{bare, field, sized, table, table_129026};
 use crate::tables::words::pack;
 use model::numbers::Kind;
 use model::reading::PADDING;
 use model::tables::Table;
 
-/// Version 1.1.
-const VERSION: u32 = 1 << 16 | 1;
+/// Version 1.2.
+const VERSION: u32 = 1 << 16 | 2;
 
 const NONE: u64 = u64::MAX;
 
 pub fn run(report: &mut Report) {
     let version = samopute::version();
     let outcome = match version {
-        VERSION => Ok("1.1".to_string()),
+        VERSION => Ok("1.2".to_string()),
         _ => Err(format!("{version}, where {VERSION} is wanted")),
     };
     report.line("the version of the interface", outcome);
     report.line("payloads worked out by hand, by samopute_decode", worked());
     report.line("records worked out by hand, by samopute_decode", records());
+    let name = "records worked out by hand, by samopute_decode_run";
+    report.line(name, structs());
 }
 
 fn worked() -> Result<String, String> {
@@ -78,7 +80,36 @@ fn records() -> Result<String, String> {
     Ok(format!("{} cases", all.len()))
 }
 
+/// The same into structs: as many as find room, and one behind them that is not lent.
+fn structs() -> Result<String, String> {
+    let all = exact();
+    for (i, one) in all.iter().enumerate() {
+        let room = one.length.saturating_sub(COUNT) / RECORD;
+        let (mut padding, mut structs) = ([0; PADDING], vec![CReading::EMPTY; room + 1]);
+        let mut answer = [NONE; 5];
+        let (words, payload) = (pack(&one.table), one.payload.to_vec());
+        let lent = &mut structs[..room];
+        let status = samopute::decode_run(&words, &payload, &mut padding, lent, &mut answer);
+        let given = (status, answer, structs);
+        let wanted = (one.status, one.answer, one.structs(room + 1));
+        if given != wanted {
+            return Err(format!(
+                "\n  case {i}\n  {given:X?}\n  {wanted:X?} is wanted"
+            ));
+        }
+    }
+    Ok(format!("{} cases", all.len()))
+}
+
 impl Exact {
+    /// So many structs: those of the records, then empty ones.
+    fn structs(&self, count: usize) -> Vec<CReading> {
+        let records = self.records.iter().copied();
+        let mut made: Vec<CReading> = records.map(CReading::of).collect();
+        made.resize(count, CReading::EMPTY);
+        made
+    }
+
     fn readings(&self) -> Vec<u8> {
         let count = self.records.len() as u64;
         let numbers = [&[count], self.records.as_flattened()].concat();

@@ -10,7 +10,7 @@ use std::fmt::Write;
 use std::hint::black_box;
 
 /// What the numbers of an answer are before a call, and those beside them.
-const BEFORE: u64 = 0xA5A5_A5A5_A5A5_A5A5;
+pub const BEFORE: u64 = 0xA5A5_A5A5_A5A5_A5A5;
 
 /// How the table is given.
 #[derive(Clone, Copy, Debug)]
@@ -22,11 +22,11 @@ pub enum Call {
 /// What a call leaves.
 #[derive(Clone, Debug, PartialEq, Eq)]
 pub struct Taken {
-    status: u32,
+    pub(super) status: u32,
     /// The five numbers, with one that is not lent on each side.
-    answer: [u64; 7],
-    after: Buffers,
-    before: Buffers,
+    pub(super) answer: [u64; 7],
+    pub(super) after: Buffers,
+    pub(super) before: Buffers,
     /// Whether the words and the payload are as they were.
     is_input_kept: bool,
 }
@@ -157,7 +157,7 @@ impl Taken {
 }
 
 /// The five numbers that are lent.
-fn five(all: &mut [u64; 7]) -> &mut Decoded {
+pub fn five(all: &mut [u64; 7]) -> &mut Decoded {
     (&mut all[1..6]).try_into().expect("five numbers")
 }
 

@@ -1,7 +1,7 @@
 //! The comparison through the interface. Each test is the library against another side, over one set of
 //! cases; every case is one decode.
 use super::call::{Call, Taken};
-use super::{by_hand, unknown};
+use super::{by_hand, run, unknown};
 use crate::cases::SEED;
 use crate::random::Random;
 use crate::readings::answer;
@@ -167,16 +167,23 @@ struct Set<'a> {
     call: Call,
     counts: &'a mut Counts,
     tests: [Test; 3],
+    /// samopute_decode_run on the same cases; a PGN it does not take.
+    run: Option<run::Test>,
     decodes: usize,
 }
 
 impl<'a> Set<'a> {
     fn new(name: &str, call: Call, wanted: &[u32], counts: &'a mut Counts) -> Set<'a> {
+        let run = match call {
+            Call::Words => Some(run::Test::new(name)),
+            Call::Pgn(_) => None,
+        };
         let name = match call {
             Call::Words => format!("{name}, by samopute_decode"),
             Call::Pgn(_) => format!("{name}, by samopute_decode_pgn"),
         };
         Set {
+            run,
             call,
             counts,
             tests: PAIRS.map(|pair| Test::new(pair, &name, wanted)),
@@ -207,6 +214,9 @@ impl<'a> Set<'a> {
         for mut case in cases {
             case.room = fitting(&asked.table, &case, random);
             let taken = Taken::new(&case, self.call);
+            if let Some(run) = &mut self.run {
+                run.compare(&case, &taken);
+            }
             let answers = Answers::new(&case, &asked, Some(&taken));
             for test in &mut self.tests {
                 test.compare(&answers);
@@ -221,6 +231,9 @@ impl<'a> Set<'a> {
         self.counts.decodes += self.decodes;
         for test in &self.tests {
             report.line(&test.name, test.outcome(&|cases| ask(self.call, cases)));
+        }
+        if let Some(run) = self.run {
+            report.line(&run.name, run.outcome());
         }
     }
 }

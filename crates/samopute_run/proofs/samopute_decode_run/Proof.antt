@@ -1,4 +1,4 @@
--- `samopute_c::decoding::samopute_decode_run` meets its contract: a walk of its MIR, by hand. The padding run and the array are given to `decode_run` for good, then
+-- `samopute_run::samopute_decode_run` meets its contract: a walk of its MIR, by hand. The padding run and the array are given to `decode_run` for good, then
 -- `answer` to `told`, each at its own lifetime. Assumes nothing.
 use mathlib.Core.Path.{_≡_, refl, sym, _∙_, ap, ap₂, subst}
 use mathlib.Core.List.{[], _∷_, List}
@@ -50,14 +50,14 @@ use Rattle.structs.proofs.Record as R
 use Rattle.structs.proofs.decode_run as runs
 use Rattle.structs.proofs.decode_run.Symbol as runs-def
 use Rattle.structs.proofs.decode_run.Met as runs-thm
 use Rattle.samopute_c.specs.Decodes.{decodedStatus, cellsOf}
-use Rattle.samopute_c.proofs.decoding.told as told
-use Rattle.samopute_c.proofs.decoding.told.Symbol as told-def
-use Rattle.samopute_c.proofs.decoding.told.Met as told-thm
-use Rattle.samopute_c.proofs.decoding.samopute_decode_run.Key.{name as #own}
-use Rattle.samopute_c.proofs.decoding.samopute_decode_run as own
-use Rattle.samopute_c.proofs.decoding.samopute_decode_run.Statement as stated
-use Rattle.samopute_c.proofs.decoding.samopute_decode_run.Code as code
+use Rattle.samopute_c.proofs.told as told
+use Rattle.samopute_c.proofs.told.Symbol as told-def
+use Rattle.samopute_c.proofs.told.Met as told-thm
+use Rattle.samopute_run.proofs.samopute_decode_run.Key.{name as #own}
+use Rattle.samopute_run.proofs.samopute_decode_run as own
+use Rattle.samopute_run.proofs.samopute_decode_run.Statement as stated
+use Rattle.samopute_run.proofs.samopute_decode_run.Code as code
 
 -- the five numbers of an answer
 abbrev Five : RattleType
@@ -261,4 +261,4 @@ samopute-decode-run-spec 𝓤 H 𝓜 𝓖 𝓡 =
     (tables 𝓤 H 𝓜 𝓡 code.env .C) (tables 𝓤 H 𝓜 𝓡 code.env .Λ) #own code.function (code.unfolded 𝓤 H 𝓜 𝓡)
     (meets 𝓤 H (𝓖 .A) (givenOf 𝓤 H 𝓜 𝓖) (𝓜 .mem) (𝓡 .run) (tablesOf 𝓤 H 𝓜 (tables 𝓤 H 𝓜 𝓡 code.env))
     (cited 𝓤 H (Runs 𝓤 H (𝓖 .A) (𝓜 .mem) (𝓡 .run)) 𝓜 𝓡 code.env runs-def.name runs-def.routine code.calls-structs·decode-run (runs-thm.met 𝓤 H 𝓜 𝓖 𝓡))
-    (cited 𝓤 H (Told 𝓤 H (𝓖 .A) (𝓜 .mem) (𝓡 .run)) 𝓜 𝓡 code.env told-def.name told-def.routine code.calls-samopute-c·decoding·told (told-thm.met 𝓤 H 𝓜 𝓖 𝓡)))
+    (cited 𝓤 H (Told 𝓤 H (𝓖 .A) (𝓜 .mem) (𝓡 .run)) 𝓜 𝓡 code.env told-def.name told-def.routine code.calls-samopute-c·told (told-thm.met 𝓤 H 𝓜 𝓖 𝓡)))
