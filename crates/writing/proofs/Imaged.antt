@@ -14,10 +14,10 @@ use Rattle.tables.specs.Table.{Table}
 use Rattle.tables.specs.Check.{checkOf}
 use Rattle.tables.specs.declared.Checked.the-variants.{Accepted}
 use Rattle.walking.specs.declared.Element.{Element}
-use Rattle.walking.specs.Runs.{ran}
+use Rattle.walking.specs.Runs.{ran, stopped}
 use Rattle.walking.specs.Walk.{hit, walkFrom}
 use Rattle.walking.proofs.Visits.{All}
-use Rattle.walking.proofs.Lawful.{Lawful, lawful-fields, lawful-ran}
+use Rattle.walking.proofs.Lawful.{Lawful, lawful-fields, lawful-ran, lawful-stopped}
 use Rattle.fields.specs.Payload.{Payload, payloadOf}
 use Rattle.fields.specs.Shapes.{shapeOf, isGap}
 use Rattle.reading.specs.Filling.{workingOf}
@@ -61,6 +61,10 @@ module _ (t : Table) (offered : ℕ → Offer) (lent : List ℕ) (size : ℕ) wh
   -- what an encode that was not refused wrote
   pub writes-chained : (ms : List Mark) (s : Pen) → writesOf t offered (length lent) size ≡ ran ms s → Chained size (length lent) 0 ms (s .at .0)
   writes-chained ms s e = lawful-ran (rw e at chained)
+
+  -- .. and one that was
+  pub stops-chained : (ms : List Mark) (f : EncodeRefusal) → writesOf t offered (length lent) size ≡ stopped ms f → (z : Pen) × Chained size (length lent) 0 ms (z .at .0)
+  stops-chained ms f e = let a = lawful-stopped (rw e at chained) in (a .0, a .1)
 
 -- ## What is received of them
 

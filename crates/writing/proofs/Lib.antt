@@ -8,6 +8,7 @@ pub mod Painted
 pub mod Loops
 pub mod Listing
 pub mod Imaged
+pub mod Ones
 pub mod Meant
 pub mod BytesBack
 pub mod FieldTaken

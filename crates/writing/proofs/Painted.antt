@@ -75,7 +75,7 @@ module _ (lent : List ℕ) where
   length-inked s at (Refused e) = refl
 
   -- a bit before the field stays
-  inked-before : (s : List ℕ) (at : ℕ) (w : Weighed) (i : ℕ) → i < at → i < length s * 8 → bitAt (inked s at w lent) i ≡ bitAt s i
+  pub inked-before : (s : List ℕ) (at : ℕ) (w : Weighed) (i : ℕ) → i < at → i < length s * 8 → bitAt (inked s at w lent) i ≡ bitAt s i
   inked-before s at (Number n r) i l h = written-before s at (n .0) r i l h
   inked-before s at (Gap n) i l h = refl
   inked-before s at (Text n lead b) i l h = poured-before s at _ i l h
