@@ -5,3 +5,4 @@ pub mod Beyond
 pub mod OneAnswer
 pub mod Scaled
 pub mod Fitting
+pub mod Silent
