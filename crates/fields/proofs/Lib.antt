@@ -3,4 +3,5 @@ pub mod Spelled
 pub mod Says
 pub mod Inside
 pub mod Filled
+pub mod Cut
 pub mod OneAnswer
