@@ -2,9 +2,9 @@
  * The boundary of Samopute for C99 and C++: GNSS payloads in NMEA 2000 form, in; readings or a numbered refusal, out.
  * And back: values in, a payload or a numbered refusal out.
  *
- * `rt staticlib samopute_c` makes target/staticlib/libsamopute_c.a for x86-64 Linux, and `rt staticlib samopute_run` makes
- * libsamopute_run.a, which has samopute_decode_run alone. They have no heap and no global state:
- * every buffer is lent by the caller for the time of the call, and threads may call at once on buffers of their own.
+ * `rt staticlib samopute_c` makes target/staticlib/libsamopute_c.a for x86-64 Linux, and `rt staticlib samopute_run`
+ * libsamopute_run.a beside it, which has samopute_decode_run alone. They have no heap and no global state: every buffer
+ * is lent by the caller for the time of the call, and threads may call at once on buffers of their own.
  *
  * A slice is a pointer and a length. Nothing outside it is read or written, so with a length of 0 the pointer is never
  * followed. Bytes need no alignment; `words` and `answer` are arrays of uint64_t, and samopute_decode_run is lent an
@@ -83,7 +83,7 @@ enum samopute_rule {
     SAMOPUTE_RULE_E = 5, /* signed where it may not be; Date or Mmsi without resolution, not of 16 or 32 bits */
     SAMOPUTE_RULE_F = 6, /* a StringLz that is not the last field, or in a set */
     SAMOPUTE_RULE_G = 7, /* sets out of order, overlapping, out of the table, of no width; size 0; maximum not 1 to 255 */
-    SAMOPUTE_RULE_H = 8  /* a set without a counter before it that is a plain Number or Lookup of 1 to 32 bits */
+    SAMOPUTE_RULE_H = 8  /* a set without a counter before it and in no set: a plain Number or Lookup, 1 to 32 bits */
 };
 
 /* The kinds of a field. */

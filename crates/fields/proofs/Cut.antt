@@ -1,7 +1,7 @@
 -- "number field cut short" is what 4 means, and 1 and 6 are given for no number: by an accepted table, in a payload of 223 bytes at most, a number is refused exactly
 -- where it ends beyond the payload. Assumes nothing.
 use mathlib.Core.Path.{_≡_, refl, sym, ap, _∙_}
-use mathlib.Core.Bool.{Bool, true, false, not, _&&_, _||_, and-eq-true-iff}
+use mathlib.Core.Bool.{Bool, true, false, not, _&&_, _||_}
 use Prim.Native.Nat.{ℕ, zero, suc, _+_, _-_, _*_, _%_, _≤_, _<_}
 use native.Mathlib.Omega.{arith}
 use lib.Dec.{eqb, leb, ltb}
@@ -16,15 +16,12 @@ use Rattle.tables.specs.Table.{Table}
 use Rattle.tables.specs.Rules.{classOf, within, wholeBytes, widthFits}
 use Rattle.tables.specs.Check.{checkOf}
 use Rattle.tables.specs.declared.Checked.the-variants.{Accepted}
-use Rattle.tables.proofs.Accepted.{widths}
+use Rattle.tables.proofs.Accepted.{between, widths}
 use Rattle.fields.specs.declared.Shape.{Shape}
 use Rattle.fields.specs.declared.Shape.the-variants.{Number, Gap, Fixed, Whole, Lau, Lz}
 use Rattle.fields.specs.Payload.{Payload}
 use Rattle.fields.specs.Shapes.{binaryOf, shapeBy, shapeOf}
 use Rattle.fields.specs.Taken.{roomAt}
-
-between : (a b w : ℕ) → within a b w ≡ true → (a ≤ w) × (w ≤ b)
-between a b w h = let p = and-eq-true-iff (leb a w) (leb w b) .0 h in (leb-true a w (p .0), leb-true w b (p .1))
 
 some : (n : ℕ) → (n ≡ 0 → ⊥) → 1 ≤ n
 some zero f = absurd (f refl)

@@ -1,4 +1,4 @@
--- Demand 3, to be held against document 01: "For an accepted table and a payload that decodes with room: the spans of the fields met,
+-- Demand 3, a demand of the project over document 01: "For an accepted table and a payload that decodes with room: the spans of the fields met,
 -- skipped ones included, cover each bit from 0 to the reported end once. Change the bits of one number that is no group counter and lies
 -- wholly in the received bytes: the payload still decodes, every span and every other reading stays the same, and that reading's raw is the
 -- new bits." Definitions only: that it holds is `proofs/Demand3.antt`.

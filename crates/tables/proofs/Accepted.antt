@@ -78,7 +78,7 @@ both : (x y : Bool) → x && y ≡ true → (x ≡ true) × (y ≡ true)
 both true y h = (refl, h)
 both false y h = absurd (false≢true h)
 
-between : (lo hi n : ℕ) → within lo hi n ≡ true → (lo ≤ n) × (n ≤ hi)
+pub between : (lo hi n : ℕ) → within lo hi n ≡ true → (lo ≤ n) × (n ≤ hi)
 between lo hi n h = let b = both (leb lo n) (leb n hi) h in (leb-true lo n (b .0), leb-true n hi (b .1))
 
 -- rule a

@@ -1,4 +1,4 @@
-// A writer that carries its buffer, as the reader does: document 01, "the reader that carries its buffer is also offered".
+// A writer that carries its lent buffer, as the Rust has it beside the reader that document 01 asks for.
 //
 // Promise: each call is the call of `bits` of the same name at the writer's slice and cursor, with its answer. `advance`
 // is its `write_advance`. The writer keeps its slice, with the bytes that the call of `bits` leaves in it. Its cursor is

@@ -44,6 +44,7 @@ use denote.Triple.Table.{entered, cited}
 use denote.Triple.Walked.{says, Stays, stay-none, stay-none-slice, walkOf, goes-none, goes-none-slice, Walks, ends-at, walked, walk-meets}
 use denote.Exit.{yes}
 use denote.Triple.Clauses.{ensured, lasts}
+use Rattle.lending.proofs.Lying.{lays, lifts}
 use Rattle.lending.proofs.Meeting.{Back, cuts, joins}
 use Rattle.bits.specs.Calls.{cursorAt, readU64Of}
 use Rattle.bits.specs.declared.Cursor.{Cursor}
@@ -76,16 +77,6 @@ module _ {M : Type 1} (𝓤 : URA M) (H : Heap 𝓤) (A : Atoms 𝓤) (at-mem : 
 
   abbrev Read : Contract 𝓤
   Read = tripleOf 𝓤 H A read.signature (read.spec 𝓤 H A at-mem run)
-
-module _ {M : Type 1} (𝓤 : URA M) (H : Heap 𝓤) (A : Atoms 𝓤) (W : Given 𝓤 H A) (κ : Lft) where
-  -- a reader's cell, with what it owns, is a reader in memory, and back
-  lays : (r : BitReader) (u : Val) (l : ℕ) → ent 𝓤 (sep 𝓤 (sem 𝓤 H A (cellAt fullShare (B κ .mir) (u ∷ []) l 0)) (sem 𝓤 H A (B κ .own r (u ∷ [])))) (sem 𝓤 H A (partAt (B κ) fullShare r l 0))
-  unfolding partOf
-  lays r u l = qed W (‵ (cellAt fullShare (B κ .mir) (u ∷ []) l 0) ∷ ‵ (B κ .own r (u ∷ [])) ∷ []) ∵ fjoin ! $ fpack ! (List Val) (λ us. fsep (cellAt fullShare (B κ .mir) us l 0) (B κ .own r us)) (u ∷ []) $ done !
-
-  lifts : (r : BitReader) (l : ℕ) → ent 𝓤 (sem 𝓤 H A (partAt (B κ) fullShare r l 0)) (ex 𝓤 (λ (vs : List Val). sep 𝓤 (sem 𝓤 H A (cellAt fullShare (B κ .mir) vs l 0)) (sem 𝓤 H A (B κ .own r vs))))
-  unfolding partOf
-  lifts r l = qed W (‵ (partAt (B κ) fullShare r l 0) ∷ []) ∵ fpick ! (λ vs. fsplit ! $ show ! (λ (us : List Val). sep 𝓤 (sem 𝓤 H A (cellAt fullShare (B κ .mir) us l 0)) (sem 𝓤 H A (B κ .own r us))) vs $ frame ! $ done !)
 
 module _ {M : Type 1} (𝓤 : URA M) (H : Heap 𝓤) (A : Atoms 𝓤) (W : Given 𝓤 H A) (at-mem : Memory → SProp 𝓤) (run : Routine → Fun 𝓤) (κ : Lft) (q : Share) (s : RefT (List ℕ)) (n : ℕ) (n-fits : n < 2 ^ 32) where
   abbrev v : Val
@@ -164,7 +155,7 @@ module _ {M : Type 1} (𝓤 : URA M) (H : Heap 𝓤) (A : Atoms 𝓤) (W : Given
         assigns ! (of-opd ! (load ! (from ! (stop !)) (look ! 5 refl))) (from ! (stop !)) (init ! 7 refl (LL.lawful (T.the-type αᵉ) (T′.the-laws αᵉ) 𝓤 H A W .typed r _ is .0)) $
         assigns ! (addr ! (from ! (stop !))) (from ! (stop !)) (init ! 3 refl (tt, tt)) $
         -- the reader is lent for a lifetime below κ
-        move ! (7 ∷ []) $ use1 W (‵ (cellAt fullShare (B κ .mir) (u ∷ []) l₃ 0)) (W .laws .at-raw fullShare (T′.mir erased) l₃ 0 u) $ use2 W (‵ (partAt (B κ) fullShare r l₃ 0)) (lays 𝓤 H A W κ r u l₃) $
+        move ! (7 ∷ []) $ use1 W (‵ (cellAt fullShare (B κ .mir) (u ∷ []) l₃ 0)) (W .laws .at-raw fullShare (T′.mir erased) l₃ 0 u) $ use2 W (‵ (partAt (B κ) fullShare r l₃ 0)) (lays 𝓤 H A W (B κ) r l₃ u) $
         lft-new ! tt (λ ν. move ! (0 ∷ 2 ∷ []) $ use2 W (‵ (flft (ν ∷ κ) (PosShare·left q)) ⊛ ‵ (flft κ (PosShare·right q)) ⊛ raw (Back 𝓤 H A W κ q ν)) (cuts 𝓤 H A W κ q ν) $ split ! $ move ! (1 ∷ []) $ split ! $
         -- [κ's token; the wand; the meet's token; the reader in memory; what s owns; _5; …]
         move ! (3 ∷ []) $ use1 W (later (some (λ (δ : GName). ‵ (Ref ν δ l₃ r) ⊛ ‵ (flent (ν ∷ κ) (Body (mem (B κ)) l₃ 0 δ))))) (lends-ref 𝓤 H A W (B κ) (named 0) (ν ∷ κ) r l₃ 0) $ await ! tt $ pick ! (λ δ. split ! $
@@ -180,7 +171,7 @@ module _ {M : Type 1} (𝓤 : URA M) (H : Heap 𝓤) (A : Atoms 𝓤) (W : Given
         lft-end ! tt $ use1 W (‵ (fdead (ν ∷ κ))) (W .lfts .dead-incl (ν ∷ κ) (ν ∷ []) (meet-⊑-left (ν ∷ []) κ)) $
         -- [dead; κ's token; true; the answer; the last value; …; the lender's part; what s owns; _5 at 8; …]
         move ! (0 ∷ 6 ∷ 4 ∷ []) $ use3 W (later (‵ (partAt (B κ) fullShare (ws .0) l₃ 0))) (ref-back 𝓤 H A W (B κ) (ν ∷ κ) δ (ws .0) l₃ 0) $ await ! tt $
-        use1 W (some (λ (vs : List Val). ‵ (cellAt fullShare (B κ .mir) vs l₃ 0) ⊛ ‵ (B κ .own (ws .0) vs))) (lifts 𝓤 H A W κ (ws .0) l₃) $ pick ! (λ vs. split ! $
+        use1 W (some (λ (vs : List Val). ‵ (cellAt fullShare (B κ .mir) vs l₃ 0) ⊛ ‵ (B κ .own (ws .0) vs))) (lifts 𝓤 H A W (B κ) (ws .0) l₃) $ pick ! (λ vs. split ! $
         spelt ! (B κ) (Is (B κ)) (shows 𝓤 H A (B κ)) (LL.vals (T.the-type αᵉ) (T′.the-laws αᵉ)) (LL.tells (T.the-type αᵉ) (T′.the-laws αᵉ)) fullShare (ws .0) vs l₃ 0 $
         use1 W (‵ (fat fullShare (T′.mir erased) l₃ 0 (T′.lowered (ws .0)))) (W .laws .raw-at fullShare (T′.mir erased) l₃ 0 (T′.lowered (ws .0))) $
         -- [_3; what the reader owns; κ's token; true; the answer; …; what s owns; _5 at 7; _4 at 9; what frees _3 at 11; _2 at 12; _1 at 14; _0 at 16]

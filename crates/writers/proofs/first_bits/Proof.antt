@@ -45,6 +45,7 @@ use denote.Triple.Table.{entered, cited}
 use denote.Triple.Walked.{says, Stays, stay-none, stay-slice, walkOf, goes-none, goes-slice, Walks, ends-at, walked, walk-meets}
 use denote.Exit.{yes}
 use denote.Triple.Clauses.{ensured, lasts}
+use Rattle.lending.proofs.Lying.{lays, lifts}
 use Rattle.lending.proofs.Meeting.{Back, cuts, joins}
 use Rattle.bits.specs.Calls.{cursorAt, advanceOf, writtenOf}
 use Rattle.bits.specs.declared.Moved.{Moved}
@@ -76,16 +77,6 @@ module _ {M : Type 1} (𝓤 : URA M) (H : Heap 𝓤) (A : Atoms 𝓤) (at-mem : 
 
   abbrev Write : Contract 𝓤
   Write = tripleOf 𝓤 H A write.signature (write.spec 𝓤 H A at-mem run)
-
-module _ {M : Type 1} (𝓤 : URA M) (H : Heap 𝓤) (A : Atoms 𝓤) (W : Given 𝓤 H A) (κ : Lft) where
-  -- a writer's cell, with what it owns, is a writer in memory, and back
-  lays : (r : BitWriter) (u : Val) (l : ℕ) → ent 𝓤 (sep 𝓤 (sem 𝓤 H A (cellAt fullShare (B κ .mir) (u ∷ []) l 0)) (sem 𝓤 H A (B κ .own r (u ∷ [])))) (sem 𝓤 H A (partAt (B κ) fullShare r l 0))
-  unfolding partOf
-  lays r u l = qed W (‵ (cellAt fullShare (B κ .mir) (u ∷ []) l 0) ∷ ‵ (B κ .own r (u ∷ [])) ∷ []) ∵ fjoin ! $ fpack ! (List Val) (λ us. fsep (cellAt fullShare (B κ .mir) us l 0) (B κ .own r us)) (u ∷ []) $ done !
-
-  lifts : (r : BitWriter) (l : ℕ) → ent 𝓤 (sem 𝓤 H A (partAt (B κ) fullShare r l 0)) (ex 𝓤 (λ (vs : List Val). sep 𝓤 (sem 𝓤 H A (cellAt fullShare (B κ .mir) vs l 0)) (sem 𝓤 H A (B κ .own r vs))))
-  unfolding partOf
-  lifts r l = qed W (‵ (partAt (B κ) fullShare r l 0) ∷ []) ∵ fpick ! (λ vs. fsplit ! $ show ! (λ (us : List Val). sep 𝓤 (sem 𝓤 H A (cellAt fullShare (B κ .mir) us l 0)) (sem 𝓤 H A (B κ .own r us))) vs $ frame ! $ done !)
 
 module _ {M : Type 1} (𝓤 : URA M) (H : Heap 𝓤) (A : Atoms 𝓤) (W : Given 𝓤 H A) (at-mem : Memory → SProp 𝓤) (run : Routine → Fun 𝓤) (κ : Lft) (q : Share) (b o : ℕ) (γ : GName) (ys : List ℕ) (v n : ℕ) (v-fits : v < 2 ^ 64) (n-fits : n < 2 ^ 32) where
   -- the slice with the bytes l, and its machine value where they are as many as k
@@ -184,7 +175,7 @@ module _ {M : Type 1} (𝓤 : URA M) (H : Heap 𝓤) (A : Atoms 𝓤) (W : Given
         assigns ! (of-opd ! (load ! (from ! (stop !)) (look ! 9 refl))) (from ! (stop !)) (init ! 11 refl (LL.lawful (T.the-type αᵉ) (T′.the-laws αᵉ) 𝓤 H A W .typed h₀ _ is .0)) $
         assigns ! (addr ! (from ! (stop !))) (from ! (stop !)) (init ! 3 refl (tt, tt)) $
         -- the writer is lent for a lifetime below κ
-        move ! (11 ∷ []) $ use1 W (‵ (cellAt fullShare (B κ .mir) (u ∷ []) l₄ 0)) (W .laws .at-raw fullShare (T′.mir erased) l₄ 0 u) $ use2 W (‵ (partAt (B κ) fullShare h₀ l₄ 0)) (lays 𝓤 H A W κ h₀ u l₄) $
+        move ! (11 ∷ []) $ use1 W (‵ (cellAt fullShare (B κ .mir) (u ∷ []) l₄ 0)) (W .laws .at-raw fullShare (T′.mir erased) l₄ 0 u) $ use2 W (‵ (partAt (B κ) fullShare h₀ l₄ 0)) (lays 𝓤 H A W (B κ) h₀ l₄ u) $
         lft-new ! tt (λ ν. move ! (0 ∷ 2 ∷ []) $ use2 W (‵ (flft (ν ∷ κ) (PosShare·left q)) ⊛ ‵ (flft κ (PosShare·right q)) ⊛ raw (Back 𝓤 H A W κ q ν)) (cuts 𝓤 H A W κ q ν) $ split ! $ move ! (1 ∷ []) $ split ! $
         -- [κ's token; the wand; the meet's token; the writer in memory; the numbers'; _8; …]
         move ! (3 ∷ []) $ use1 W (later (some (λ (δ : GName). ‵ (Ref ν δ l₄) ⊛ ‵ (flent (ν ∷ κ) (Body (mem (B κ)) l₄ 0 δ))))) (lends-ref 𝓤 H A W (B κ) (named 0) (ν ∷ κ) h₀ l₄ 0) $ await ! tt $ pick ! (λ δ. split ! $
@@ -201,7 +192,7 @@ module _ {M : Type 1} (𝓤 : URA M) (H : Heap 𝓤) (A : Atoms 𝓤) (W : Given
         -- [dead; κ's token; true; the answer; the last value; …; the lender's part; the numbers'; _8 at 8; …]
         move ! (0 ∷ 6 ∷ 4 ∷ []) $ use3 W (later (‵ (partAt (B κ) fullShare (ws .0) l₄ 0))) (ref-back 𝓤 H A W (B κ) (ν ∷ κ) δ (ws .0) l₄ 0) $ await ! tt $
         rewrite ! 0 (λ (h : BitWriter). ‵ (partAt (B κ) fullShare h l₄ 0)) (e′ .1) refl $
-        use1 W (some (λ (vs : List Val). ‵ (cellAt fullShare (B κ .mir) vs l₄ 0) ⊛ ‵ (B κ .own (h₁ t) vs))) (lifts 𝓤 H A W κ (h₁ t) l₄) $ pick ! (λ vs. split ! $
+        use1 W (some (λ (vs : List Val). ‵ (cellAt fullShare (B κ .mir) vs l₄ 0) ⊛ ‵ (B κ .own (h₁ t) vs))) (lifts 𝓤 H A W (B κ) (h₁ t) l₄) $ pick ! (λ vs. split ! $
         spelt ! (B κ) (Is (B κ)) (shows 𝓤 H A (B κ)) (LL.vals (T.the-type αᵉ) (T′.the-laws αᵉ)) (LL.tells (T.the-type αᵉ) (T′.the-laws αᵉ)) fullShare (h₁ t) vs l₄ 0 $
         use1 W (‵ (fat fullShare (T′.mir erased) l₄ 0 (T′.lowered (h₁ t)))) (W .laws .raw-at fullShare (T′.mir erased) l₄ 0 (T′.lowered (h₁ t))) $
         -- the writer is taken apart
