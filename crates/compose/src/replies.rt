@@ -5,6 +5,7 @@ ghost use lib.ListN.{length};
 ghost use Rattle.textio.specs.Bounds.{Within};
 use crate::answers;
 use crate::orders;
+use frames::Frame;
 use frames::Known;
 use frames::Message;
 use frames::PAYLOAD_MAX;
@@ -71,7 +72,7 @@ fn by_pgn(pgn: u32, values: &[u8], lent: &[u8], out: &mut [u8], at: Lines) -> Li
             next_line(out, to, at)
         }
         Known::Unknown => {
-            let to = frames::put_unknown(out, at.waiting, pgn);
+            let to = frames::put_no_frame(out, at.waiting, Frame::Unknown { pgn });
             next_line(out, to, at)
         }
     }

@@ -4,4 +4,5 @@ pub mod Says
 pub mod Inside
 pub mod Filled
 pub mod Cut
+pub mod Given
 pub mod OneAnswer

@@ -1,6 +1,8 @@
 -- The refusals of a decode as document 01 counts them: "What each number means".
 use Prim.Native.Nat.{ℕ}
 use mathlib.Core.List.{List, [], _∷_}
+use mathlib.Core.Bool.{Bool, _||_}
+use lib.Dec.{eqb}
 use Rattle.bits.specs.Refusals as bit
 use Rattle.tables.specs.Check.{letterOf}
 use Rattle.fields.specs.declared.DecodeRefusal.{DecodeRefusal}
@@ -14,6 +16,10 @@ numberOf (RepetitionsExceedCapacity set count maximum) = 5
 numberOf (WrongLength length) = 7
 numberOf (TableRefused rule index) = 8
 numberOf (NoRoom field) = 9
+
+-- the numbers that a decode gives: "No refusal is given otherwise". Of the lower ones 1 and 6 are for bit calls alone
+abbrev pub givenByDecode : ℕ → Bool
+givenByDecode n = eqb n 2 || eqb n 3 || eqb n 4 || eqb n 5 || eqb n 7 || eqb n 8 || eqb n 9
 
 -- what it carries: 4 field; 5 set, count, maximum; 7 length; 8 rule letter, index; 9 field. "Inside decode and encode, 1 to 3 also name
 -- the field", which comes first

@@ -2,4 +2,5 @@ mod Counting
 mod Digits
 mod Exact
 mod Feeding
+mod Room
 mod OneAnswer

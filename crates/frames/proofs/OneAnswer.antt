@@ -7,6 +7,9 @@ use Rattle.frames.proofs.digest.empty_line.Reads as empty-line
 use Rattle.frames.proofs.digest.feed.Reads as feed
 use Rattle.frames.proofs.lookup.message_of.Reads as message-of
 use Rattle.frames.proofs.lookup.frame_of.Reads as frame-of
+use Rattle.frames.proofs.Frame.number.Reads as number
+use Rattle.frames.proofs.Frame.carried_count.Reads as carried-count
+use Rattle.frames.proofs.Frame.carried.Reads as carried
 
 one-empty-line : Fixes empty-line.Post (λ κs x s. x)
 one-empty-line = fixed (λ κs a x s p. p)
@@ -25,3 +28,12 @@ one-frame-of = fixed (λ κs a x s p. p)
 
 one-is-last : Fixes is-last.Post (λ κs x s. x)
 one-is-last = fixed (λ κs a x s p. p)
+
+one-number : Fixes number.Post (λ κs x s. x)
+one-number = fixed (λ κs a x s p. p)
+
+one-carried-count : Fixes carried-count.Post (λ κs x s. x)
+one-carried-count = fixed (λ κs a x s p. p)
+
+one-carried : Fixes carried.Post (λ κs x s. x)
+one-carried = fixed (λ κs a x s p. p)

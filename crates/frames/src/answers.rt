@@ -2,6 +2,7 @@
 // its longest text and answers where the text ends.
 ghost use Prim.Native.Nat.{_+_, _≤_};
 ghost use lib.ListN.{length};
+use crate::Frame;
 use descriptor::Availability;
 use descriptor::PgnBytes;
 use descriptor::PgnValue;
@@ -30,13 +31,18 @@ pub fn put_pgn(out: &mut [u8], at: usize, pgn: u32) -> usize
     put_bytes(out, at, &[high, middle, low])
 }
 
-// No message has the PGN: 15.
-pub fn put_unknown(out: &mut [u8], at: usize, pgn: u32) -> usize
-    requires { ⌜ at + 518 ≤ length (now out) ⌝ }
-    ensures { λ r. ⌜ r ≤ at + 518 ⌝ }
+// A line that is refused: F, its number and the PGN, of 24 bits, that 15 carries.
+pub fn put_no_frame(out: &mut [u8], at: usize, frame: Frame) -> usize
+    requires { ⌜ at + 536 ≤ length (now out) ⌝ }
+    ensures { λ r. ⌜ r ≤ at + 536 ⌝ }
 {
-    let a = put_text(out, at, b"F 15 ");
-    put_pgn(out, a, pgn)
+    let a = put(out, at, b'F');
+    let b = put_number(out, a, frame.number() as usize);
+    if frame.carried_count() == 0 {
+        return b;
+    }
+    let c = put(out, b, b' ');
+    put_pgn(out, c, (frame.carried(0) % 0x100_0000) as u32)
 }
 
 // The frame: its PGN and the bytes received.

@@ -10,14 +10,15 @@
 mod answers;
 mod digest;
 mod lookup;
+mod refusals;
 mod walks;
 
 pub use crate::answers::put_head;
+pub use crate::answers::put_no_frame;
 pub use crate::answers::put_pgn;
 pub use crate::answers::put_place;
 pub use crate::answers::put_refusal;
 pub use crate::answers::put_refused;
-pub use crate::answers::put_unknown;
 pub use crate::digest::empty_line;
 pub use crate::digest::feed;
 pub use crate::lookup::frame_of;
@@ -57,7 +58,8 @@ pub enum Known {
     Unknown,
 }
 
-// What a line is: a frame of a built-in message, with the bytes of its payload counted; or 14 or 15.
+// What a line is: a frame of a built-in message, with the bytes of its payload counted; or 14 or 15,
+// by specs/Refusals.antt.
 pub enum Frame {
     Got {
         message: Message,

@@ -7,32 +7,30 @@ ghost use lib.ListN.{length};
 ghost use Rattle.tables.specs.Table.{tableOf};
 ghost use Rattle.fields.specs.Payload.{payloadOf};
 ghost use Rattle.reading.specs.Steps.{nextOf, goesOn};
+ghost use Rattle.reading.specs.Demand3.{roomEnough};
 ghost use Rattle.frames.specs.Frames.{wordsOf};
 use crate::Frame;
 use crate::Message;
 use crate::Printing;
 use crate::answers::put_end;
 use crate::answers::put_frame;
+use crate::answers::put_no_frame;
 use crate::answers::put_reading;
 use crate::answers::put_refusal;
-use crate::answers::put_unknown;
 use bits::ByteCount;
 use fields::DecodeRefusal;
 use reading::Answer;
 use reading::Next;
 use reading::Walk;
 use reading::next_field;
+use reading::room_enough;
 use textio::put;
-use textio::put_malformed;
 
 // A payload has at most so many bytes.
 pub const PAYLOAD_MAX: usize = 223;
 
 // The room of one line, with some to spare.
 const LINE_MAX: usize = 1024;
-
-// No built-in message has so many readings: 129029 with all of its 45 stations has 149.
-const ROOM: usize = 256;
 
 // Ends a line.
 fn ended(out: &mut [u8], at: usize) -> usize
@@ -58,12 +56,12 @@ pub fn put_first(frame: Frame, out: &mut [u8], at: usize) -> usize
             let next = ended(out, to);
             put_too_long(received, out, next)
         }
-        Frame::Unknown { pgn } => {
-            let to = put_unknown(out, at, pgn);
+        Frame::Unknown { pgn: _ } => {
+            let to = put_no_frame(out, at, frame);
             ended(out, to)
         }
         Frame::Malformed => {
-            let to = put_malformed(out, at);
+            let to = put_no_frame(out, at, frame);
             ended(out, to)
         }
     }
@@ -121,15 +119,17 @@ pub fn is_last(answer: Answer) -> bool
 }
 
 // One turn of the walk through a payload, by a message's table. The built-in tables are accepted, and
-// none has a length to fill a payload to: what `prepare` would do is done.
+// none has a length to fill a payload to: what `prepare` would do is done. With room enough there is no
+// refusal 9 (proofs/Room.antt).
 fn turn(message: Message, payload: &[u8], walk: Walk) -> Next
-    ensures { λ r. ⌜ r ≡ nextOf (tableOf (wordsOf message)) (payloadOf (now (payload .entry))) 256 walk ⌝ }
+    ensures { λ r. ⌜ r ≡ nextOf (tableOf (wordsOf message)) (payloadOf (now (payload .entry))) roomEnough walk ⌝ }
 {
+    let room = room_enough();
     match message {
-        Message::M129025 => next_field(&messages::TABLE_129025, payload, ROOM, walk),
-        Message::M129026 => next_field(&messages::TABLE_129026, payload, ROOM, walk),
-        Message::M129029 => next_field(&messages::TABLE_129029, payload, ROOM, walk),
-        Message::M130900 => next_field(&messages::TABLE_130900, payload, ROOM, walk),
+        Message::M129025 => next_field(&messages::TABLE_129025, payload, room, walk),
+        Message::M129026 => next_field(&messages::TABLE_129026, payload, room, walk),
+        Message::M129029 => next_field(&messages::TABLE_129029, payload, room, walk),
+        Message::M130900 => next_field(&messages::TABLE_130900, payload, room, walk),
     }
 }
 

@@ -14,6 +14,8 @@ use Rattle.bits.specs.Calls.{cursorAt, widthMax, writtenIn, writtenOf}
 use Rattle.bits.proofs.Rooms.{Fitting, fitting, room-fits}
 use Rattle.bits.proofs.Laws.{length-written}
 use Rattle.tables.specs.Table.{Table}
+use Rattle.tables.specs.Check.{checkOf}
+use Rattle.tables.specs.declared.Checked.the-variants.{Accepted}
 use Rattle.walking.specs.Runs.{Run, ran, stopped}
 use Rattle.fields.specs.declared.DecodeRefusal.{DecodeRefusal}
 use Rattle.fields.specs.declared.DecodeRefusal.the-variants.{NoRoom}
@@ -30,12 +32,14 @@ use Rattle.reading.specs.declared.Progress.{Progress}
 use Rattle.reading.specs.declared.Prepared.{Prepared}
 use Rattle.reading.specs.declared.Prepared.the-variants as prepared
 use Rattle.reading.specs.declared.Decoded.the-variants as decoded
+use Rattle.reading.specs.declared.Walk.{Walk}
+use Rattle.reading.specs.declared.Answer.the-variants as answer
 use Rattle.reading.specs.Filling.{workingOf, preparedOf}
 use Rattle.reading.specs.Decode.{walkOf, readingOf, readings, spansOf, endOf, decodedIn, decodedOf, readInto, readingsOf}
-use Rattle.reading.specs.Steps.{startOf, handedIn}
+use Rattle.reading.specs.Steps.{startOf, nextOf, handedIn}
 use Rattle.reading.specs.Demand3.{unskippedIn, Free, roomEnough}
 use Rattle.reading.proofs.Working.{readied, working-le}
-use Rattle.reading.proofs.Looped.{handed-out}
+use Rattle.reading.proofs.Looped.{Going, turned, handed-out}
 use Rattle.reading.proofs.Roomy.{count-unskipped, never-full, never-prepared}
 use Rattle.reading.proofs.Demand3.{demand-3}
 
@@ -135,20 +139,24 @@ two-runs t received padded room us v ws s d free x =
 
 -- ## Room
 
--- with room for 1,785 readings 9 is never given: a working payload has at most 223 bytes, and `never-full` says why one more than its bits is
--- enough
-module _ (t : Table) (received padded : List ℕ) (room : ℕ) (enough : roomEnough ≤ room) (i n : ℕ) where
-  full-by-run : preparedOf t (length received) (length padded) ≡ prepared.Ready → (w : Run Span Progress DecodeRefusal) → walkOf t (payloadOf (workingOf t received)) room ≡ w
-      → endOf t (payloadOf (workingOf t received)) w ≡ decoded.Refused (NoRoom i) n → ⊥
-  full-by-run q (ran vs s) w e = let z : _≡_ {A = ℕ} 0 1 = cc in omega arith
-  full-by-run q (stopped vs f) w e =
-      let g : f ≡ NoRoom i = cc in
-      let u = working-le t received padded q in
-      never-full t (readied t (length received) (length padded) q .table) (payloadOf (workingOf t received)) room (omega arith) vs i (w ∙ ap (stopped vs) g)
+-- with room for 1,785 readings 9 is never given: a payload has at most 223 bytes, and `never-full` says why one more than its bits is enough
+never-by-run : (t : Table) → checkOf t ≡ Accepted → (p : Payload) → p .size ≤ 223 → (room : ℕ) → roomEnough ≤ room → (i n : ℕ) (w : Run Span Progress DecodeRefusal)
+    → walkOf t p room ≡ w → endOf t p w ≡ decoded.Refused (NoRoom i) n → ⊥
+never-by-run t ok p small room enough i n (ran vs s) w e = let z : _≡_ {A = ℕ} 0 1 = cc in omega arith
+never-by-run t ok p small room enough i n (stopped vs f) w e =
+    let g : f ≡ NoRoom i = cc in
+    never-full t ok p room (omega arith) vs i (w ∙ ap (stopped vs) g)
 
+module _ (t : Table) (received padded : List ℕ) (room : ℕ) (enough : roomEnough ≤ room) (i n : ℕ) where
   full-by-prepared : (q : Prepared) → preparedOf t (length received) (length padded) ≡ q → decodedIn q t (payloadOf (workingOf t received)) room ≡ decoded.Refused (NoRoom i) n → ⊥
-  full-by-prepared prepared.Ready q e = full-by-run q (walkOf t (payloadOf (workingOf t received)) room) refl e
+  full-by-prepared prepared.Ready q e =
+      never-by-run t (readied t (length received) (length padded) q .table) (payloadOf (workingOf t received)) (working-le t received padded q) room enough i n _ refl e
   full-by-prepared (prepared.Refused x) q e = let g : x ≡ NoRoom i = cc in never-prepared t (length received) (length padded) i (q ∙ ap prepared.Refused g)
 
   pub enough-room : decodedOf t received (length padded) room ≡ decoded.Refused (NoRoom i) n → ⊥
   enough-room h = full-by-prepared (preparedOf t (length received) (length padded)) refl h
+
+-- nor is it by a turn, at any place of the walk from `start` on
+pub enough-turn : (t : Table) → checkOf t ≡ Accepted → (p : Payload) → p .size ≤ 223 → (room : ℕ) → roomEnough ≤ room → (w : Walk) → Going t p room w → (i : ℕ)
+    → nextOf t p room w .answer ≡ answer.Refused (NoRoom i) → ⊥
+enough-turn t ok p small room enough w g i h = never-by-run t ok p small room enough i _ (walkOf t p room) refl (turned t p room ok w g .stops (NoRoom i) h)

@@ -106,7 +106,7 @@ fewest-least Lz p w at = omega arith
 
 module _ (t : Table) (ok : checkOf t ≡ Accepted) where
   -- a field met is one of the table's
-  in-table : (i : ℕ) (e : Element) (last : Bool) → Looks t (t .count) i e last → i < t .count
+  pub in-table : (i : ℕ) (e : Element) (last : Bool) → Looks t (t .count) i e last → i < t .count
   in-table i e last (plain l) = l
   in-table i e last (member k x j l m) = let p = placed t ok k l in omega (arith, p .inside)
 

@@ -14,4 +14,5 @@ pub mod Changed
 pub mod Received
 pub mod Demand3
 pub mod Answered
+pub mod Given
 pub mod OneAnswer

@@ -13,6 +13,7 @@ use Rattle.reading.proofs.turns.decoded_at.Reads as decoded-at
 use Rattle.reading.proofs.filling.pad_to_min_length.Reads as pad-to-min-length
 use Rattle.reading.proofs.filling.prepare.Reads as prepare
 use Rattle.reading.proofs.decoding.for_each_field.Reads as for-each-field
+use Rattle.reading.proofs.decoding.room_enough.Reads as room-enough
 
 one-repeating-group-count : Fixes repeating-group-count.Post (λ κs x s. x)
 one-repeating-group-count = fixed (λ κs a x s p. p)
@@ -52,3 +53,6 @@ one-is-filled = fixed (λ κs a x s p. p)
 
 one-counter-at : Fixes counter-at.Post (λ κs x s. x)
 one-counter-at = fixed (λ κs a x s p. p)
+
+one-room-enough : Fixes room-enough.Post (λ κs x s. x)
+one-room-enough = fixed (λ κs a x s p. p)

@@ -7,8 +7,10 @@ ghost use Rattle.tables.specs.declared.Checked.the-variants as checked;
 ghost use Rattle.fields.specs.Payload.{payloadOf};
 ghost use Rattle.reading.specs.Filling.{runAfter};
 ghost use Rattle.reading.specs.Decode.{walkOf, endOf, decodedOf};
+ghost use Rattle.reading.specs.Demand3.{roomEnough};
 use crate::Decoded;
 use crate::Prepared;
+use crate::ROOM_ENOUGH;
 use crate::filling;
 use crate::turns;
 
@@ -41,4 +43,11 @@ pub fn for_each_field(words: &[u64], received: &[u8], padded: &mut [u8], room: u
         }
         Prepared::Refused(refusal) => Decoded::Refused { refusal, count: 0 },
     }
+}
+
+// With room for so many readings no decode gives 9.
+pub fn room_enough() -> usize
+    ensures { λ r. ⌜ r ≡ roomEnough ⌝ }
+{
+    ROOM_ENOUGH
 }

@@ -25,6 +25,7 @@ mod groups;
 mod turns;
 
 pub use crate::decoding::for_each_field;
+pub use crate::decoding::room_enough;
 pub use crate::filling::is_filled;
 pub use crate::filling::pad_to_min_length;
 pub use crate::filling::prepare;
@@ -36,8 +37,8 @@ pub use crate::turns::goes_on;
 pub use crate::turns::next_field;
 pub use crate::turns::start;
 
-// With room for so many readings no decode by an accepted table gives 9: `roomEnough` of
-// specs/Demand3.antt, of which proofs/Answered.antt shows it.
+// With room for so many readings no decode gives 9: `room_enough` holds it to the definition of which
+// proofs/Answered.antt shows that. It is here for the lengths of arrays.
 pub const ROOM_ENOUGH: usize = 1785;
 
 // A field met, skipped ones too: `bits` bits from `start` on.

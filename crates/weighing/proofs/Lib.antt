@@ -1,2 +1,3 @@
 pub mod Weighs
+pub mod Given
 pub mod OneAnswer

@@ -1,6 +1,8 @@
 -- The refusals of an encode as document 01 counts them: "What each number means".
 use Prim.Native.Nat.{ℕ}
 use mathlib.Core.List.{List, [], _∷_}
+use mathlib.Core.Bool.{Bool, _||_}
+use lib.Dec.{eqb}
 use Rattle.bits.specs.Refusals as bit
 use Rattle.tables.specs.Check.{letterOf}
 use Rattle.weighing.specs.declared.EncodeRefusal.{EncodeRefusal}
@@ -16,6 +18,10 @@ numberOf (OutOfRange field) = 10
 numberOf (WrongKind field) = 11
 numberOf (ValueCount field) = 12
 numberOf (TextTooLong field) = 13
+
+-- the numbers that an encode gives: "No refusal is given otherwise". 1 and 6 are for bit calls alone, 4 and 9 for decode
+abbrev pub givenByEncode : ℕ → Bool
+givenByEncode n = eqb n 2 || eqb n 3 || eqb n 5 || eqb n 7 || eqb n 8 || eqb n 10 || eqb n 11 || eqb n 12 || eqb n 13
 
 -- what it carries: 5 set, count, maximum; 7 length; 8 rule letter, index; 10, 11 and 13 field; 12 field, or field count. "Inside decode and
 -- encode, 1 to 3 also name the field", which comes first

@@ -18,4 +18,5 @@ pub mod WalkBack
 pub mod Fitted
 pub mod ReadsBack
 pub mod CallsBack
+pub mod Given
 pub mod OneAnswer
