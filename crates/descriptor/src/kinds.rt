@@ -35,10 +35,9 @@ pub fn kind_of(code: u32) -> FieldKind
 pub fn resolution_of(mark: u32, bits: u32) -> Resolution
     ensures { λ r. ⌜ r ≡ resolutionOf mark bits ⌝ }
 {
-    let factor = rounding::f32_of_bits(bits);
     match mark {
-        1 => Resolution::Single(factor),
-        2 => Resolution::Double(factor),
+        1 => Resolution::Single(rounding::f32_of_bits(bits)),
+        2 => Resolution::Double(rounding::f32_of_bits(bits)),
         _ => Resolution::Unscaled,
     }
 }

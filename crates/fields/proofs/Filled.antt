@@ -14,6 +14,11 @@ getD-filled [] (suc m) d (suc i) = getD-filled [] m d i
 getD-filled (x ∷ l) m d zero = refl
 getD-filled (x ∷ l) m d (suc i) = getD-filled l m d i
 
+-- past the first
+pub getD-later : (x : ℕ) (l : List ℕ) (d i : ℕ) → (i ≡ 0 → ⊥) → getD l (i - 1) d ≡ getD (x ∷ l) i d
+getD-later x l d zero h = absurd (h refl)
+getD-later x l d (suc i) h = let e : suc i - 1 ≡ i = omega arith in ap (λ (k : ℕ). getD l k d) e
+
 -- filled up to n with 0xFF
 abbrev pub full : List ℕ → ℕ → List ℕ
 full l n = l ++ replicate (n - length l) 0xff

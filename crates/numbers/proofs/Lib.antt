@@ -6,3 +6,4 @@ pub mod OneAnswer
 pub mod Scaled
 pub mod Fitting
 pub mod Silent
+pub mod Simple

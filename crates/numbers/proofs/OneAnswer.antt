@@ -13,6 +13,7 @@ use Rattle.numbers.proofs.conversions.number_to_raw.Reads as number-to-
 use Rattle.numbers.proofs.words.code_of.Reads as code-of
 use Rattle.numbers.proofs.words.word_of.Reads as word-of
 use Rattle.numbers.proofs.words.silence_of.Reads as silence-of
+use Rattle.numbers.proofs.words.simple_words.Reads as simple-words
 use Rattle.numbers.proofs.words.number_words.Reads as number-words
 
 one-sign-extend : Fixes sign-extend.Post (λ κs x s. x)
@@ -50,6 +51,9 @@ one-word-of = fixed (λ κs a x s p. p)
 
 one-silence-of : Fixes silence-of.Post (λ κs x s. x)
 one-silence-of = fixed (λ κs a x s p. p)
+
+one-simple-words : Fixes simple-words.Post (λ κs x s. x)
+one-simple-words = fixed (λ κs a x s p. p)
 
 one-number-words : Fixes number-words.Post (λ κs x s. x)
 one-number-words = fixed (λ κs a x s p. p)

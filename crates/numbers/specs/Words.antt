@@ -1,5 +1,6 @@
 -- How values cross a boundary of numbers: a code for the kind and 64 bits, and whether the raw says nothing.
-use Prim.Native.Nat.{ℕ, suc, _-_, _^_}
+use Prim.Native.Nat.{ℕ, suc, _-_, _^_, min}
+use mathlib.Core.Bool.{false}
 use lib.Ieee.{binary32, binary64, toBits}
 use lib.IntN.{ℤ, pos, negsuc}
 use Rattle.descriptor.specs.declared.Availability.{Availability}
@@ -8,8 +9,8 @@ use Rattle.descriptor.specs.declared.FieldDescriptor.{FieldDescriptor}
 use Rattle.descriptor.specs.declared.PgnValue.{PgnValue}
 use Rattle.descriptor.specs.declared.PgnValue.the-variants.{U64, U32, U16, U8, I64, I32, I16, I8, F64, F32, Bytes}
 use Rattle.numbers.specs.declared.NumberWords.{NumberWords}
-use Rattle.numbers.specs.Scaling.{scaleOf}
-use Rattle.numbers.specs.Special.{numberAvailabilityOf}
+use Rattle.numbers.specs.Scaling.{unsignedOf, scaleOf}
+use Rattle.numbers.specs.Special.{rawAvailabilityOf, numberAvailabilityOf}
 
 -- a whole number in two's complement of 64 bits
 abbrev pub twosOf : ℤ → ℕ
@@ -56,3 +57,7 @@ wordsOf v silence = record { code = codeOf v; word = wordOf v; silence = silence
 -- `number_words`: the value of a field's raw, and whether it says nothing
 abbrev pub numberWordsOf : FieldDescriptor → ℕ → NumberWords
 numberWordsOf f raw = wordsOf (scaleOf f raw) (silenceOf (numberAvailabilityOf f raw))
+
+-- `simple_words`: the same of a raw of n bits in a field that is neither signed nor scaled; proofs/Simple.antt ties it to the line above
+abbrev pub simpleWordsOf : ℕ → ℕ → NumberWords
+simpleWordsOf n raw = wordsOf (unsignedOf n raw) (silenceOf (rawAvailabilityOf (min n 64) false raw))

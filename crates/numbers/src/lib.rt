@@ -22,6 +22,7 @@ pub use crate::special::number_availability;
 pub use crate::words::code_of;
 pub use crate::words::number_words;
 pub use crate::words::silence_of;
+pub use crate::words::simple_words;
 pub use crate::words::word_of;
 
 // The rules by which a raw becomes a value and a value a raw.

@@ -37,7 +37,8 @@ pub(crate) fn top_of(n: u32, signed: bool) -> u64
     ones(n)
 }
 
-fn raw_availability(n: u32, signed: bool, raw: u64) -> Availability
+// Whether a raw of n bits says something, in a field that is no Float.
+pub(crate) fn raw_availability(n: u32, signed: bool, raw: u64) -> Availability
     requires { ⌜ n ≤ 64 ⌝ }
     ensures { λ r. ⌜ r ≡ rawAvailabilityOf n signed raw ⌝ }
 {

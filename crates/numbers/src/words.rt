@@ -5,7 +5,7 @@ ghost use Prim.Native.Nat.{_^_, _≤_, _<_};
 ghost use Rattle.descriptor.specs.declared.PgnValue.the-variants.{F64, F32};
 ghost use Rattle.numbers.specs.Signs.{signedOf};
 ghost use Rattle.numbers.specs.Scaling.{unsignedOf, wholeOf, durationOf, plainOf, countedOf, lastingOf, clockOf};
-ghost use Rattle.numbers.specs.Words.{twosOf, codeOf, wordOf, silenceOf, wordsOf, numberWordsOf};
+ghost use Rattle.numbers.specs.Words.{twosOf, codeOf, wordOf, silenceOf, wordsOf, numberWordsOf, simpleWordsOf};
 use crate::NumberWords;
 use crate::ScaleRule;
 use crate::scale::float_of;
@@ -15,6 +15,7 @@ use crate::scale::to_f32;
 use crate::signs;
 use crate::special::availability;
 use crate::special::one_less;
+use crate::special::raw_availability;
 use descriptor::Availability;
 use descriptor::FieldDescriptor;
 use descriptor::PgnValue;
@@ -256,4 +257,13 @@ pub fn number_words(raw: u64, f: FieldDescriptor) -> NumberWords
         ScaleRule::Real => of_f32(float_of(r), silence),
         ScaleRule::Flags => unsigned_words(n, r, silence),
     }
+}
+
+// The words of a raw of n bits in a field that is neither signed nor scaled.
+pub fn simple_words(n: u32, raw: u64) -> NumberWords
+    ensures { λ r. ⌜ r ≡ simpleWordsOf n raw ⌝ }
+{
+    let bits = signs::least(n, 64);
+    let silence = silence_of(raw_availability(bits, false, raw));
+    unsigned_words(n, raw, silence)
 }

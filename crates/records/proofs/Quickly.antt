@@ -1,8 +1,9 @@
 -- A number or a gap that is read quickly is the field that reading meets there. Assumes nothing.
 use mathlib.Core.Path.{_≡_, refl, sym, ap, ap₂, _∙_, subst}
 use mathlib.Core.Bool.{Bool, true, false}
+use mathlib.Core.Logic.{_⊎_, inl, inr}
 use mathlib.Core.List.{List, [], _∷_, _++_}
-use Prim.Native.Nat.{ℕ, _+_, _*_, _≤_, _<_}
+use Prim.Native.Nat.{ℕ, _+_, _≤_, _<_}
 use native.Mathlib.Omega.{arith}
 use lib.Dec.{ltb}
 use lib.ListN.{length, length-append}
@@ -11,23 +12,27 @@ use Rattle.bits.specs.Calls.{bits, cursorAt, readU64Of, advanceOf}
 use Rattle.bits.specs.declared.Cursor.{Cursor}
 use Rattle.bits.specs.declared.ReadU64.the-variants as read64
 use Rattle.bits.specs.declared.Moved.the-variants as moved
+use Rattle.bits.proofs.Answers.{read-below}
+use Rattle.descriptor.specs.declared.FieldKind.{FieldKind}
+use Rattle.descriptor.specs.declared.FieldKind.the-variants as kind
 use Rattle.descriptor.specs.declared.FieldDescriptor.{FieldDescriptor}
 use Rattle.descriptor.specs.declared.PgnValue.{PgnValue}
 use Rattle.numbers.specs.Scaling.{scaleOf}
 use Rattle.numbers.specs.Special.{numberAvailabilityOf}
-use Rattle.tables.specs.Table.{Table}
+use Rattle.numbers.specs.Words.{simpleWordsOf}
+use Rattle.numbers.proofs.Simple.{simple-words}
+use Rattle.tables.specs.Table.{Table, Simple}
 use Rattle.walking.specs.declared.Element.{Element}
-use Rattle.walking.specs.Walk.{One, hit, check}
+use Rattle.walking.specs.Walk.{hit, check}
 use Rattle.fields.specs.declared.DecodeRefusal.{DecodeRefusal}
 use Rattle.fields.specs.declared.DecodeRefusal.the-variants.{NoRoom}
 use Rattle.fields.specs.declared.Raw.{Raw}
 use Rattle.fields.specs.declared.Raw.the-variants as raw
 use Rattle.fields.specs.declared.Shape.{Shape}
 use Rattle.fields.specs.declared.Shape.the-variants.{Number, Gap, Fixed, Whole, Lau, Lz}
-use Rattle.fields.specs.declared.FieldRead.{FieldRead}
 use Rattle.fields.specs.declared.FieldRead.the-variants as read
 use Rattle.fields.specs.Payload.{Payload, payloadOf}
-use Rattle.fields.specs.Shapes.{shapeOf, isNumber, isGap}
+use Rattle.fields.specs.Shapes.{shapeBy, shapeOf, isNumber, isGap}
 use Rattle.fields.specs.Taken.{takenBy, roomAt}
 use Rattle.fields.specs.Content.{availabilityBy, availabilityOf, readOver, fieldReadOf}
 use Rattle.fields.proofs.Spelled.{numberSays, number-says, gapSays, gap-says}
@@ -35,11 +40,12 @@ use Rattle.reading.specs.declared.Span.{Span}
 use Rattle.reading.specs.declared.Reading.{Reading}
 use Rattle.reading.specs.declared.Progress.{Progress}
 use Rattle.reading.specs.Groups.{notedBy}
-use Rattle.reading.specs.Decode.{spanAt, progressAt, settled, oneOf, readingOf, withReading, readings}
-use Rattle.reading.proofs.Told.{Told, told, Gone, gone, lies-in}
-use Rattle.records.specs.Layout.{laid, recordOf, numberReading, records}
+use Rattle.reading.specs.Decode.{spanAt, progressAt, settled, readingOf, withReading, readings}
+use Rattle.reading.proofs.Told.{told, gone, lies-in}
+use Rattle.records.specs.Layout.{laid, recordOf, numberReading, numberRecord, records}
 use Rattle.records.specs.Puts.{puts}
-use Rattle.records.specs.Stretches.{placeAt, Roomy, stored, Field, Hits, none, more, Ran}
+use Rattle.records.specs.Stretches.{placeAt, Roomy, stored, Field, none, more, Ran}
+use Rattle.records.proofs.Worth.{number-record}
 use Rattle.records.proofs.Putting.{length-puts, length-records, puts-then, records-append, one-record}
 
 no : {A : Type 0} → _≡_ {A = Bool} false true → A
@@ -199,6 +205,26 @@ module _ (t : Table) (s : List ℕ) (room i : ℕ) (e : Element) (at made : ℕ)
       → (out′ : List ℕ) → made < room → out′ ≡ puts out (placeAt made) (laid (recordOf (numberReading i e at x r)))
       → Field t (payloadOf s) room i e at made out (x .width) 1 (notedBy t e i (raw.Number r)) out′)
       (sym h) (number-field t s room i e at made out r d)
+
+  -- .. by its width alone
+  pub simple-of : (n : ℕ) → Simple (t .field i) n → (r : ℕ) (d : Cursor) → readU64Of s (cursorAt at) n ≡ read64.Got r d
+      → (out′ : List ℕ) → made < room → out′ ≡ puts out (placeAt made) (laid (numberRecord i e at n r (simpleWordsOf n r)))
+      → Field t (payloadOf s) room i e at made out n 1 (notedBy t e i (raw.Number r)) out′
+  simple-of n k r d g =
+      subst (λ (m : ℕ). readU64Of s (cursorAt at) m ≡ read64.Got r d → (out′ : List ℕ) → made < room
+      → out′ ≡ puts out (placeAt made) (laid (numberRecord i e at m r (simpleWordsOf m r)))
+      → Field t (payloadOf s) room i e at made out m 1 (notedBy t e i (raw.Number r)) out′)
+      (k .width)
+      (λ (h : readU64Of s (cursorAt at) (f .width) ≡ read64.Got r d) (out′ : List ℕ) (l : made < room) (q : out′ ≡ puts out (placeAt made) (laid (numberRecord i e at (f .width) r (simpleWordsOf (f .width) r)))).
+      number-field t s room i e at made out r d (number-kind (k .kind)) h out′ l (q ∙ ap (λ (ws : List ℕ). puts out (placeAt made) (laid ws)) (number-record i e at f r _ (simple-words f (f .width) r (k .kind) (k .unscaled) (k .unsigned) refl (omega (arith, k .small, k .width)) (read-below s (cursorAt at) (f .width) 64 r d h)))))
+      g
+    where
+      f : FieldDescriptor
+      f = t .field i
+
+      number-kind : (f .kind ≡ kind.Number) ⊎ (f .kind ≡ kind.Lookup) → isNumber (shapeOf f) ≡ true
+      number-kind (inl x) = ap (λ (y : FieldKind). isNumber (shapeBy y (f .width))) x
+      number-kind (inr x) = ap (λ (y : FieldKind). isNumber (shapeBy y (f .width))) x
 
   pub gap-of : (f : FieldDescriptor) → f ≡ t .field i → (d : Cursor) → isGap (shapeOf f) ≡ true → advanceOf (length s) (cursorAt at) (f .width) 64 ≡ moved.To d
       → Field t (payloadOf s) room i e at made out (f .width) 0 (λ cs. cs) out

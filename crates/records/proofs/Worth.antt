@@ -1,17 +1,14 @@
 -- What the words of a record come to. Assumes nothing.
 use mathlib.Core.Path.{_≡_, refl, sym, ap, ap₂, _∙_}
-use mathlib.Core.List.{List, [], _∷_, _++_}
-use Prim.Native.Nat.{ℕ, _+_, _*_, _^_, _≤_, _<_}
+use mathlib.Core.List.{[], _∷_}
+use Prim.Native.Nat.{ℕ, _+_, _*_, _≤_}
 use native.Mathlib.Omega.{arith}
 use lib.Dec.{lit≤}
-use lib.ListN.{length}
 use denote.Enum.Declared.{tagOf}
 use types.Run.{OneOf, miss}
 use Rattle.descriptor.proofs.PgnValue.{the-type}
 use Rattle.descriptor.specs.declared.Availability.{Availability}
 use Rattle.descriptor.specs.declared.Availability.the-variants.{Available, NotAvailable}
-use Rattle.descriptor.specs.declared.Encoding.{Encoding}
-use Rattle.descriptor.specs.declared.Encoding.the-variants as encoding
 use Rattle.descriptor.specs.declared.FieldDescriptor.{FieldDescriptor}
 use Rattle.descriptor.specs.declared.PgnBytes.{PgnBytes}
 use Rattle.descriptor.specs.declared.PgnValue.{PgnValue}
@@ -19,12 +16,12 @@ use Rattle.descriptor.specs.declared.PgnValue.the-variants.{U64, U32, U16, U8, 
 use Rattle.numbers.specs.Scaling.{scaleOf}
 use Rattle.numbers.proofs.Scaled.{scaled-small}
 use Rattle.numbers.specs.Special.{numberAvailabilityOf}
-use Rattle.numbers.specs.Words.{codeOf, wordOf, silenceOf, numberWordsOf}
+use Rattle.numbers.specs.Words.{codeOf, wordOf, silenceOf, wordsOf, numberWordsOf}
 use Rattle.numbers.specs.declared.NumberWords.{NumberWords}
 use Rattle.walking.specs.declared.Element.{Element}
 use Rattle.fields.specs.declared.Raw.{Raw}
 use Rattle.fields.specs.declared.Raw.the-variants as raw
-use Rattle.records.specs.Layout.{rawMark, encodingMark, noBytes, bytesIn, elementWord, valueWord, recordOf, numberReading}
+use Rattle.records.specs.Layout.{rawMark, encodingMark, noBytes, bytesIn, elementWord, valueWord, recordOf, numberReading, numberRecord}
 
 pub code-small : (v : PgnValue) → codeOf v ≤ 11
 code-small (U64 n) = lit≤ tt
@@ -42,6 +39,13 @@ code-small (Bytes b) = lit≤ tt
 pub silence-small : (a : Availability) → silenceOf a ≤ 1
 silence-small Available = lit≤ tt
 silence-small NotAvailable = lit≤ tt
+
+-- of a value's words
+pub words-small : (v : PgnValue) (a : Availability) (n : NumberWords) → n ≡ wordsOf v (silenceOf a) → (n .silence ≤ 1) × (n .code ≤ 11)
+words-small v a n e =
+    let s : n .silence ≡ silenceOf a = ap (λ (m : NumberWords). m .silence) e in
+    let k : n .code ≡ codeOf v = ap (λ (m : NumberWords). m .code) e in
+    (omega (arith, s, silence-small a), omega (arith, k, code-small v))
 
 pub given-small : (r : Raw) → rawMark r ≤ 1
 given-small raw.Absent = lit≤ tt
@@ -100,11 +104,11 @@ place-alone v b h = none-plus (b .start .0) ∙ sym (ap valueWord h)
 tag-more : (s k : ℕ) → s + 256 * k + 65536 ≡ s + 256 * k + 65536 * 1 + 16777216 * 0
 tag-more s k = omega arith
 
-pub number-record : (i : ℕ) (e : Element) (at : ℕ) (f : FieldDescriptor) (r : ℕ) (n : NumberWords) (m : ℕ) → n ≡ numberWordsOf f r → m ≡ elementWord e
-    → (i ∷ m ∷ at ∷ f .width ∷ (n .silence + 256 * n .code + 65536) ∷ r ∷ n .word ∷ 0 ∷ []) ≡ recordOf (numberReading i e at f r)
-number-record i e at f r n m h k =
+pub number-record : (i : ℕ) (e : Element) (at : ℕ) (f : FieldDescriptor) (r : ℕ) (n : NumberWords) → n ≡ numberWordsOf f r
+    → numberRecord i e at (f .width) r n ≡ recordOf (numberReading i e at f r)
+number-record i e at f r n h =
     let v = scaleOf f r in
     let s = silenceOf (numberAvailabilityOf f r) in
-    ap₂ (λ (x : NumberWords) (y : ℕ). i ∷ y ∷ at ∷ f .width ∷ (x .silence + 256 * x .code + 65536) ∷ r ∷ x .word ∷ 0 ∷ []) h k
+    ap (numberRecord i e at (f .width) r) h
     ∙ ap₂ (λ (x : ℕ) (y : ℕ). i ∷ elementWord e ∷ at ∷ f .width ∷ x ∷ r ∷ y ∷ 0 ∷ []) (tag-more s (codeOf v)) (plus-none (wordOf v))
     ∙ ap (λ (b : PgnBytes). i ∷ elementWord e ∷ at ∷ f .width ∷ (s + 256 * codeOf v + 65536 * 1 + 16777216 * encodingMark (b .encoding)) ∷ r ∷ (wordOf v + b .start .0) ∷ b .len .0 ∷ []) (sym (scaled-none f r))

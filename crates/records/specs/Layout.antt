@@ -15,6 +15,7 @@ use Rattle.descriptor.specs.declared.PgnValue.the-variants.{U64, U32, U16, U8, 
 use Rattle.descriptor.specs.declared.FieldDescriptor.{FieldDescriptor}
 use Rattle.numbers.specs.Scaling.{scaleOf}
 use Rattle.numbers.specs.Special.{numberAvailabilityOf}
+use Rattle.numbers.specs.declared.NumberWords.{NumberWords}
 use Rattle.numbers.specs.Words.{codeOf, wordOf, silenceOf}
 use Rattle.walking.specs.declared.Element.{Element}
 use Rattle.walking.specs.declared.Element.the-variants as element
@@ -95,6 +96,10 @@ recordOf r =
 abbrev pub numberReading : ℕ → Element → ℕ → FieldDescriptor → ℕ → Reading
 numberReading i e at f r =
     record { field = i; element = e; start = bits at; bits = bits (f .width); raw = raw.Number r; value = scaleOf f r; availability = numberAvailabilityOf f r }
+
+-- the record of a number of so many bits, by its raw and the words of its value
+abbrev pub numberRecord : ℕ → Element → ℕ → ℕ → ℕ → NumberWords → List ℕ
+numberRecord i e at width r n = i ∷ elementWord e ∷ at ∷ width ∷ (n .silence + 256 * n .code + 65536) ∷ r ∷ n .word ∷ 0 ∷ []
 
 unfoldable pub records : List Reading → List ℕ
 records [] = []

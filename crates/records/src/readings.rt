@@ -3,7 +3,7 @@ ghost use mathlib.Core.Path.{_≡_};
 ghost use mathlib.Core.List.{[], _∷_};
 ghost use Prim.Native.Nat.{_+_, _≤_};
 ghost use lib.ListN.{length};
-ghost use Rattle.records.specs.Layout.{laid, elementWord, rawWord, rawMark, encodingMark, bytesIn, tagBy, valueWord, recordOf, numberReading};
+ghost use Rattle.records.specs.Layout.{laid, elementWord, rawWord, rawMark, encodingMark, bytesIn, tagBy, valueWord, recordOf, numberReading, numberRecord};
 ghost use Rattle.records.specs.Puts.{puts};
 use crate::layout::put_word;
 use bits::ByteCount;
@@ -13,6 +13,7 @@ use descriptor::FieldDescriptor;
 use descriptor::PgnBytes;
 use descriptor::PgnValue;
 use fields::Raw;
+use numbers::NumberWords;
 use reading::Reading;
 use walking::Element;
 
@@ -102,24 +103,24 @@ pub fn bytes_in(value: PgnValue) -> PgnBytes
     b
 }
 
-// Puts a number that was read at bit `start`.
-pub(crate) fn put_number(
+// Puts a number of so many bits, by the words of its value.
+pub(crate) fn put_words(
     out: &mut [u8],
     at: usize,
     i: usize,
     e: Element,
     start: usize,
-    f: FieldDescriptor,
+    width: u32,
     raw: u64,
+    n: NumberWords,
 )
-    requires { ⌜ at + 64 ≤ length (now out) ⌝ }
-    ensures { λ _. ⌜ now (out .exit) ≡ puts (now (out .entry)) at (laid (recordOf (numberReading i e start f raw))) ⌝ }
+    requires { ⌜ (at + 64 ≤ length (now out)) × ((n .silence ≤ 1) × (n .code ≤ 11)) ⌝ }
+    ensures { λ _. ⌜ now (out .exit) ≡ puts (now (out .entry)) at (laid (numberRecord i e start width raw n)) ⌝ }
 {
-    let n = numbers::number_words(raw, f);
     let code = n.code;
     let silence = n.silence;
     let value = n.word;
-    let bits = f.width as u64;
+    let bits = width as u64;
     let tag = silence + 0x100 * code + 0x1_0000;
     let element = element_word(e);
     put_record(
@@ -134,6 +135,23 @@ pub(crate) fn put_number(
         value,
         0,
     );
+}
+
+// Puts a number that was read at bit `start`.
+pub(crate) fn put_number(
+    out: &mut [u8],
+    at: usize,
+    i: usize,
+    e: Element,
+    start: usize,
+    f: FieldDescriptor,
+    raw: u64,
+)
+    requires { ⌜ at + 64 ≤ length (now out) ⌝ }
+    ensures { λ _. ⌜ now (out .exit) ≡ puts (now (out .entry)) at (laid (recordOf (numberReading i e start f raw))) ⌝ }
+{
+    let n = numbers::number_words(raw, f);
+    put_words(out, at, i, e, start, f.width, raw, n);
 }
 
 // The value's bits, or the place of a text or bytes.

@@ -4,7 +4,7 @@ ghost use mathlib.Core.Path.{_≡_};
 ghost use mathlib.Core.Bool.{true};
 ghost use Prim.Native.Nat.{_<_};
 ghost use lib.ListN.{length};
-ghost use Rattle.tables.specs.Table.{tableOf};
+ghost use Rattle.tables.specs.Table.{tableOf, Simple};
 ghost use Rattle.fields.specs.Payload.{payloadOf};
 ghost use Rattle.fields.specs.Shapes.{shapeOf, isNumber, isGap};
 ghost use Rattle.records.specs.Stretches.{Roomy, quickSays, Quiet, Runs, stretchAt};
@@ -40,6 +40,39 @@ fn number(
         return match c.read_u64(s, width) {
             ReadU64::Got { value, next: _ } => {
                 readings::put_number(out, 8 + 64 * made, i, e, at, f, value);
+                let taken = width as usize;
+                Quick::Took {
+                    bits: taken,
+                    raw: value,
+                }
+            }
+            ReadU64::Refused(_) => Quick::Passed,
+        };
+    }
+    Quick::Passed
+}
+
+// Field i, a simple number at bit `at`.
+fn simple(
+    words: &[u64],
+    s: &[u8],
+    room: usize,
+    i: usize,
+    e: Element,
+    width: u32,
+    at: usize,
+    made: usize,
+    out: &mut [u8],
+) -> Quick
+    requires { ⌜ Simple (tableOf (now words) .field i) width × Roomy room (now out) ⌝ }
+    ensures { λ r. ⌜ quickSays (tableOf (now (words .entry))) (payloadOf (now (s .entry))) room i e at made (now (out .entry)) r (now (out .exit)) ⌝ }
+{
+    if made < room {
+        let c = Cursor { at: BitPos(at) };
+        return match c.read_u64(s, width) {
+            ReadU64::Got { value, next: _ } => {
+                let n = numbers::simple_words(width, value);
+                readings::put_words(out, 8 + 64 * made, i, e, at, width, value, n);
                 let taken = width as usize;
                 Quick::Took {
                     bits: taken,
@@ -92,6 +125,10 @@ fn quick(
     requires { ⌜ Roomy room (now out) ⌝ }
     ensures { λ r. ⌜ quickSays (tableOf (now (words .entry))) (payloadOf (now (s .entry))) room i e at made (now (out .entry)) r (now (out .exit)) ⌝ }
 {
+    let n = tables::simple_width(words, i);
+    if n > 0 {
+        return simple(words, s, room, i, e, n, at, made, out);
+    }
     let f = tables::field_at(words, i);
     if fields::is_number(f) {
         return number(words, s, room, i, e, f, at, made, out);

@@ -1,4 +1,5 @@
 pub mod Missing
+pub mod Simple
 pub mod Searches
 pub mod Chain
 pub mod Accepted

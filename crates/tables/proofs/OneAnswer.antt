@@ -10,6 +10,7 @@ use Rattle.tables.proofs.words.set_at.Reads as set-at
 use Rattle.tables.proofs.words.set_count.Reads as set-count
 use Rattle.tables.proofs.words.length_of.Reads as length-of
 use Rattle.tables.proofs.words.minimum_of.Reads as minimum-of
+use Rattle.tables.proofs.words.simple_width.Reads as simple-width
 use Rattle.tables.proofs.TableRule.letter.Reads as letter
 
 one-check : Fixes check.Post (λ κs x s. x)
@@ -38,6 +39,9 @@ one-length-of = fixed (λ κs a x s p. p)
 
 one-minimum-of : Fixes minimum-of.Post (λ κs x s. x)
 one-minimum-of = fixed (λ κs a x s p. p)
+
+one-simple-width : Fixes simple-width.Post (λ κs x s. x)
+one-simple-width = fixed (λ κs a x s p. p)
 
 one-letter : Fixes letter.Post (λ κs x s. x)
 one-letter = fixed (λ κs a x s p. p)

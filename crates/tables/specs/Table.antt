@@ -1,9 +1,14 @@
 -- A table of fields and repeating sets, and how it stands in words. Definitions only.
-use Prim.Native.Nat.{ℕ, _+_, _/_, _%_, _^_}
+use Prim.Native.Nat.{ℕ, _+_, _/_, _%_, _^_, _≤_}
+use mathlib.Core.Path.{_≡_}
+use mathlib.Core.Logic.{_⊎_}
 use mathlib.Core.List.{List}
-use mathlib.Core.Bool.{Bool}
-use lib.Dec.{eqb}
+use mathlib.Core.Bool.{false, _&&_, _||_}
+use lib.Dec.{eqb, leb}
 use lib.ListN.{getD}
+use Rattle.bits.specs.Bits.{pick}
+use Rattle.descriptor.specs.declared.FieldKind.the-variants.{Number, Lookup}
+use Rattle.descriptor.specs.declared.Resolution.the-variants.{Unscaled}
 use Rattle.descriptor.specs.declared.FieldDescriptor.{FieldDescriptor}
 use Rattle.descriptor.specs.Kinds.{kindOf, resolutionOf}
 use Rattle.tables.specs.declared.RepeatingFieldSet.{RepeatingFieldSet}
@@ -30,6 +35,19 @@ fieldOf word =
       signed = eqb (part word 24 1) 1;
       resolution = resolutionOf (part word 25 2) (part word 32 32);
     }
+
+-- the width of the field in a word, if it is a simple number: Number or Lookup, not signed, without a mark, at most 64 bits wide; else 0. It is
+-- no rule of document 01: quick ways go by it
+abbrev pub simpleWidth : ℕ → ℕ
+simpleWidth word = pick (eqb (part word 24 3) 0 && ((eqb (word % 2 ^ 8) 0 || eqb (word % 2 ^ 8) 2) && leb (part word 8 16) 64)) (part word 8 16) 0
+
+-- what such a field is
+pub record Simple (f : FieldDescriptor) (n : ℕ) : Type 0 where
+  pub kind : (f .kind ≡ Number) ⊎ (f .kind ≡ Lookup)
+  pub width : f .width ≡ n
+  pub unsigned : f .signed ≡ false
+  pub unscaled : f .resolution ≡ Unscaled
+  pub small : n ≤ 64
 
 -- a set in a word: start, size, counter and maximum, 16 bits each
 abbrev pub setOf : ℕ → RepeatingFieldSet

@@ -9,6 +9,7 @@ use crate::KindClass;
 use crate::classes;
 use crate::rules;
 use crate::words::field_at;
+use crate::words::simple_width;
 use descriptor::Resolution;
 
 // Whether a field of a numeric kind keeps the rules c and d. It keeps b, e and f whatever it is.
@@ -21,11 +22,14 @@ fn numeric_is_kept(width: u32, resolution: Resolution) -> bool
     false
 }
 
-// Whether field i keeps the rules b to f.
+// Whether field i keeps the rules b to f: a simple number does.
 fn field_is_kept(words: &[u64], i: usize) -> bool
     requires { ⌜ i ≤ 65536 ⌝ }
     ensures { λ r. ⌜ (r ≡ true → KeptField (tableOf (now (words .entry))) i) ⌝ }
 {
+    if simple_width(words, i) > 0 {
+        return true;
+    }
     let f = field_at(words, i);
     let kind = f.kind;
     let resolution = f.resolution;

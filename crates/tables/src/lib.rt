@@ -23,6 +23,7 @@ pub use crate::words::length_of;
 pub use crate::words::minimum_of;
 pub use crate::words::set_at;
 pub use crate::words::set_count;
+pub use crate::words::simple_width;
 
 // A run of fields that is repeated: `size` fields from `start` on, as often as the field `counter`
 // says, at most `maximum` times.

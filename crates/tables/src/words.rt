@@ -1,8 +1,10 @@
 // A table in words: the head, a word for each field, a word for each set. A word that is missing is 0.
 ghost use mathlib.Core.Path.{_≡_};
-ghost use Prim.Native.Nat.{_%_, _^_};
+ghost use Prim.Native.Nat.{_+_, _%_, _^_};
+ghost use lib.Dec.{leb};
 ghost use lib.ListN.{getD};
-ghost use Rattle.tables.specs.Table.{tableOf, fieldOf, setOf};
+ghost use Rattle.bits.specs.Bits.{pick};
+ghost use Rattle.tables.specs.Table.{tableOf, fieldOf, simpleWidth, setOf};
 use crate::RepeatingFieldSet;
 use descriptor::FieldDescriptor;
 
@@ -62,13 +64,52 @@ fn field_of(w: u64) -> FieldDescriptor
     }
 }
 
+// The word of field i.
+fn field_word(words: &[u64], i: usize) -> u64
+    ensures { λ r. ⌜ r ≡ getD (now (words .entry)) (1 + i) 0 ⌝ }
+{
+    if i < words.len() {
+        return word(words, 1 + i);
+    }
+    0
+}
+
 pub fn field_at(words: &[u64], i: usize) -> FieldDescriptor
     ensures { λ r. ⌜ r ≡ tableOf (now (words .entry)) .field i ⌝ }
 {
-    if i < words.len() {
-        return field_of(word(words, 1 + i));
+    field_of(field_word(words, i))
+}
+
+// A width up to 64, else 0.
+fn short_width(width: u32) -> u32
+    ensures { λ r. ⌜ r ≡ pick (leb width 64) width 0 ⌝ }
+{
+    if width <= 64 { width } else { 0 }
+}
+
+// The width of the field that a word is, if it is a simple number, else 0.
+fn simple_in(w: u64) -> u32
+    ensures { λ r. ⌜ r ≡ simpleWidth w ⌝ }
+{
+    let code = w % 0x100;
+    let width = ((w >> 8) % 0x1_0000) as u32;
+    if (w >> 24) % 8 == 0 {
+        if code == 0 {
+            return short_width(width);
+        }
+        if code == 2 {
+            return short_width(width);
+        }
     }
-    field_of(0)
+    0
+}
+
+// The width of field i if it is a Number or Lookup, not signed and not scaled, of 1 to 64 bits: most
+// fields are, and one look at their word is enough. Else 0.
+pub fn simple_width(words: &[u64], i: usize) -> u32
+    ensures { λ r. ⌜ r ≡ simpleWidth (getD (now (words .entry)) (1 + i) 0) ⌝ }
+{
+    simple_in(field_word(words, i))
 }
 
 // The set that a word is.

@@ -1,18 +1,30 @@
 -- `records::walks::turn` meets its contract: the reading that was handed out is stored. Assumes nothing.
 use mathlib.Core.Path.{_≡_, sym, ap, _∙_}
+use mathlib.Core.List.{List}
+use Prim.Native.Nat.{ℕ, _+_, _≤_}
 use native.Mathlib.Omega.{arith}
+use lib.ListN.{length}
 use denote.Ref.{now}
-use Rattle.tables.specs.Table.{tableOf}
-use Rattle.fields.specs.Payload.{payloadOf}
+use Rattle.tables.specs.Table.{Table, tableOf}
+use Rattle.fields.specs.Payload.{Payload, payloadOf}
 use Rattle.reading.specs.declared.Answer.{Answer}
+use Rattle.reading.specs.declared.Answer.the-variants.{Met}
 use Rattle.reading.specs.declared.Next.{Next}
-use Rattle.reading.specs.Steps.{handed}
-use Rattle.records.specs.Stretches.{stored}
+use Rattle.reading.specs.declared.Reading.{Reading}
+use Rattle.reading.specs.declared.Walk.{Walk}
+use Rattle.reading.specs.Steps.{handed, nextOf}
+use Rattle.records.specs.Layout.{recordBytes}
+use Rattle.records.specs.Stretches.{Roomy, placeAt, stored}
 use Rattle.records.proofs.Quickly.{stored-one, stored-none}
 use Rattle.reading.proofs.Seated.{met-room}
 use borrow.Author.Needs.{needs}
 use Rattle.records.proofs.walks.turn.Statement.{statement}
 use Rattle.records.proofs.walks.turn.Tie as tie
+
+-- a reading that was met has its place
+seat : (t : Table) (p : Payload) (room : ℕ) (walk : Walk) (out : List ℕ) (n : Next) (r : Reading) → Roomy room out → n ≡ nextOf t p room walk → n .answer ≡ Met r
+    → placeAt (walk .progress .made) + recordBytes ≤ length out
+seat t p room walk out n r roomy e m = roomy .fits (walk .progress .made) (met-room t p room walk r (sym (ap (λ (x : Next). x .answer) e) ∙ m))
 
 next-field-requires : tie.Need-next-field-requires
 next-field-requires c κs = search needs
@@ -24,25 +36,19 @@ mul-put-reading : tie.Need-mul-put-reading
 mul-put-reading c =
     let z = c .before .before .before .before .before .before .before .before .before in
     let a = z .args in
-    let n = c .before .before .before .before in
-    let h = z .pre .fits (a .walk .progress .made) (met-room (tableOf (now (a .words))) (payloadOf (now (a .s))) (a .room) (a .walk) _ (sym (ap (λ (x : Next). x .answer) (n .next-field .ensures)) ∙ c .before .before .answer .given .1)) in
-    record { fits = omega (arith, h) }
+    record { fits = omega (arith, seat (tableOf (now (a .words))) (payloadOf (now (a .s))) (a .room) (a .walk) (now (a .out)) _ _ (z .pre) (c .before .before .before .before .next-field .ensures) (c .before .before .answer .given .1)) }
 
 add-put-reading : tie.Need-add-put-reading
 add-put-reading c =
     let z = c .before .before .before .before .before .before .before .before .before in
     let a = z .args in
-    let n = c .before .before .before .before in
-    let h = z .pre .fits (a .walk .progress .made) (met-room (tableOf (now (a .words))) (payloadOf (now (a .s))) (a .room) (a .walk) _ (sym (ap (λ (x : Next). x .answer) (n .next-field .ensures)) ∙ c .before .before .answer .given .1)) in
-    record { fits = omega (arith, h) }
+    record { fits = omega (arith, seat (tableOf (now (a .words))) (payloadOf (now (a .s))) (a .room) (a .walk) (now (a .out)) _ _ (z .pre) (c .before .before .before .before .next-field .ensures) (c .before .before .answer .given .1)) }
 
 put-reading-requires : tie.Need-put-reading-requires
 put-reading-requires c κs =
     let z = c .before .before .before .before .before .before .before .before .before in
     let a = z .args in
-    let n = c .before .before .before .before in
-    let h = z .pre .fits (a .walk .progress .made) (met-room (tableOf (now (a .words))) (payloadOf (now (a .s))) (a .room) (a .walk) _ (sym (ap (λ (x : Next). x .answer) (n .next-field .ensures)) ∙ c .before .before .answer .given .1)) in
-    h
+    seat (tableOf (now (a .words))) (payloadOf (now (a .s))) (a .room) (a .walk) (now (a .out)) _ _ (z .pre) (c .before .before .before .before .next-field .ensures) (c .before .before .answer .given .1)
 
 enum-told : tie.Need-enum-told
 enum-told c = search needs

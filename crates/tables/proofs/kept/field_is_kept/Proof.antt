@@ -1,21 +1,30 @@
 -- `tables::kept::field_is_kept` meets its contract: where each test holds, each rule does. Assumes nothing.
 use mathlib.Core.Path.{_≡_, sym, ap, ap₂, _∙_}
-use mathlib.Core.Bool.{Bool, true, not, _&&_, _||_, false≢true}
-use Prim.Native.Nat.{ℕ, _+_}
-use lib.Dec.{eqb}
+use mathlib.Core.Bool.{Bool, false≢true}
+use Prim.Native.Nat.{_+_, _<_}
+use native.Mathlib.Omega.{arith}
+use lib.ListN.{getD}
 use denote.Ref.{now}
-use Rattle.tables.specs.Table.{Table, tableOf}
+use Rattle.tables.specs.Table.{tableOf, simpleWidth}
 use Rattle.descriptor.specs.declared.FieldDescriptor.{FieldDescriptor}
 use Rattle.tables.specs.declared.KindClass.{KindClass}
 use Rattle.tables.specs.declared.KindClass.the-variants.{Numeric}
-use Rattle.tables.specs.Rules.{classOf, known, widthFits, resolutionFits, signFits, scaled, lastOnly, inSets, placeFits}
+use Rattle.tables.specs.Rules.{classOf, known, widthFits, resolutionFits, signFits, scaled}
+use Rattle.tables.proofs.Simple.{simple, simple-kept, anywhere}
 use borrow.Author.Needs.{needs}
 use Rattle.tables.proofs.kept.field_is_kept.Statement.{statement}
 use Rattle.tables.proofs.kept.field_is_kept.Tie as tie
 
--- a numeric kind fits anywhere
-anywhere : (t : Table) (i : ℕ) → classOf (t .field i .kind) ≡ Numeric → placeFits t i ≡ true
-anywhere t i e = ap (λ (x : KindClass). not (lastOnly x) || (eqb (i + 1) (t .count) && not (inSets t i (t .sets)))) e
+simple-width-requires : tie.Need-simple-width-requires
+simple-width-requires c κs = search needs
+
+returns : tie.Need-returns
+returns c h =
+    let a = c .before .before .before .args in
+    let w = getD (now (a .words)) (1 + a .i) 0 in
+    let n = c .before .simple-width .ensures in
+    let l : 0 < simpleWidth w = omega (arith, c .if1 .taken, n) in
+    simple-kept (tableOf (now (a .words))) (a .i) (simpleWidth w) l (simple w l)
 
 field-at-requires : tie.Need-field-at-requires
 field-at-requires c κs = search needs
@@ -26,14 +35,14 @@ is-numeric-requires c κs = search needs
 numeric-is-kept-requires : tie.Need-numeric-is-kept-requires
 numeric-is-kept-requires c κs = search needs
 
-returns : tie.Need-returns
-returns c h =
+returns-2 : tie.Need-returns-2
+returns-2 c h =
     let s = c .before .before in
     let f = s .before in
-    let a = f .before .before .args in
+    let a = f .before .before .before .before .args in
     let t = tableOf (now (a .words)) .field (a .i) in
     let fe = f .field-at .ensures in
-    let n = s .is-numeric .ensures (c .before .if1 .taken) in
+    let n = s .is-numeric .ensures (c .before .if2 .taken) in
     let k = c .numeric-is-kept .ensures h in
     let cls : classOf (t .kind) ≡ Numeric = sym (ap (λ (x : FieldDescriptor). classOf (x .kind)) fe) ∙ n in
     record {
@@ -65,8 +74,8 @@ sign-fits-requires c κs = search needs
 place-fits-requires : tie.Need-place-fits-requires
 place-fits-requires c κs = search needs
 
-returns-2 : tie.Need-returns-2
-returns-2 c h =
+returns-3 : tie.Need-returns-3
+returns-3 c h =
     let s = c .before .before in
     let r = s .before .before .before in
     let w = r .before .before in
@@ -76,15 +85,12 @@ returns-2 c h =
     let fe = f .field-at .ensures in
     let g = f .field-at .result in
     record {
-      b = sym (k .is-known .ensures ∙ ap known cls ∙ ap (λ (x : FieldDescriptor). known (classOf (x .kind))) fe) ∙ w .before .if2 .taken;
-      c = sym (w .width-fits .ensures ∙ ap (λ (x : KindClass). widthFits x (g .width)) cls ∙ ap (λ (x : FieldDescriptor). widthFits (classOf (x .kind)) (x .width)) fe) ∙ r .before .if3 .taken;
-      d = sym (r .resolution-fits .ensures ∙ ap (λ (x : KindClass). resolutionFits x (g .resolution)) cls ∙ ap (λ (x : FieldDescriptor). resolutionFits (classOf (x .kind)) (x .resolution)) fe) ∙ s .before .before .if4 .taken;
-      e = sym (s .sign-fits .ensures ∙ ap₂ (λ (x : KindClass) (y : Bool). signFits x (g .width) (g .signed) y) cls (s .before .is-scaled .ensures) ∙ ap (λ (x : FieldDescriptor). signFits (classOf (x .kind)) (x .width) (x .signed) (scaled (x .resolution))) fe) ∙ c .before .if5 .taken;
+      b = sym (k .is-known .ensures ∙ ap known cls ∙ ap (λ (x : FieldDescriptor). known (classOf (x .kind))) fe) ∙ w .before .if3 .taken;
+      c = sym (w .width-fits .ensures ∙ ap (λ (x : KindClass). widthFits x (g .width)) cls ∙ ap (λ (x : FieldDescriptor). widthFits (classOf (x .kind)) (x .width)) fe) ∙ r .before .if4 .taken;
+      d = sym (r .resolution-fits .ensures ∙ ap (λ (x : KindClass). resolutionFits x (g .resolution)) cls ∙ ap (λ (x : FieldDescriptor). resolutionFits (classOf (x .kind)) (x .resolution)) fe) ∙ s .before .before .if5 .taken;
+      e = sym (s .sign-fits .ensures ∙ ap₂ (λ (x : KindClass) (y : Bool). signFits x (g .width) (g .signed) y) cls (s .before .is-scaled .ensures) ∙ ap (λ (x : FieldDescriptor). signFits (classOf (x .kind)) (x .width) (x .signed) (scaled (x .resolution))) fe) ∙ c .before .if6 .taken;
       f = sym (c .place-fits .ensures) ∙ h;
     }
-
-returns-3 : tie.Need-returns-3
-returns-3 c h = absurd (false≢true h)
 
 returns-4 : tie.Need-returns-4
 returns-4 c h = absurd (false≢true h)
@@ -95,14 +101,19 @@ returns-5 c h = absurd (false≢true h)
 returns-6 : tie.Need-returns-6
 returns-6 c h = absurd (false≢true h)
 
+returns-7 : tie.Need-returns-7
+returns-7 c h = absurd (false≢true h)
+
 pub field-is-kept-spec : {M : Type 1} → statement M
 field-is-kept-spec =
     tie.close
     (tie.spec
+    simple-width-requires
+    returns
     field-at-requires
     is-numeric-requires
     numeric-is-kept-requires
-    returns
+    returns-2
     class-of-requires
     is-known-requires
     width-fits-requires
@@ -110,8 +121,8 @@ field-is-kept-spec =
     is-scaled-requires
     sign-fits-requires
     place-fits-requires
-    returns-2
     returns-3
     returns-4
     returns-5
-    returns-6)
+    returns-6
+    returns-7)

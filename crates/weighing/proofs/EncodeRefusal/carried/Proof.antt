@@ -1,11 +1,10 @@
 -- `weighing::EncodeRefusal::carried` meets its contract: by the variant; zeros after the last value change nothing. Assumes nothing.
-use mathlib.Core.Path.{_≡_, refl, sym, ap, _∙_}
-use mathlib.Core.List.{List, [], _∷_}
-use Prim.Native.Nat.{ℕ, zero, suc, _-_}
-use native.Mathlib.Omega.{arith}
+use mathlib.Core.Path.{sym, ap, _∙_}
+use mathlib.Core.List.{[], _∷_}
+use Prim.Native.Nat.{ℕ}
 use lib.ListN.{getD}
 use Rattle.bits.specs.Refusals as bit
-use Rattle.fields.proofs.Filled.{getD-filled}
+use Rattle.fields.proofs.Filled.{getD-filled, getD-later}
 use Rattle.weighing.specs.declared.EncodeRefusal.{EncodeRefusal}
 use Rattle.weighing.specs.Refusals.{carriedOf}
 use borrow.Author.Needs.{needs}
@@ -15,11 +14,6 @@ use Rattle.weighing.proofs.EncodeRefusal.carried.Tie as tie
 -- what a refusal carries at i
 abbrev at : ℕ → EncodeRefusal → ℕ
 at i e = getD (carriedOf e) i 0
-
--- past the first
-later : (x : ℕ) (l : List ℕ) (i : ℕ) → (i ≡ 0 → ⊥) → getD l (i - 1) 0 ≡ getD (x ∷ l) i 0
-later x l zero h = absurd (h refl)
-later x l (suc i) h = let e : suc i - 1 ≡ i = omega arith in ap (λ (k : ℕ). getD l k 0) e
 
 enum-known-self : tie.Need-enum-known-self
 enum-known-self c = search needs
@@ -85,7 +79,7 @@ returns-2 : tie.Need-returns-2
 returns-2 c =
     let g = c .before .before .before .self .given in
     let i = c .before .before .before .before .before .args .i in
-    c .carried .ensures ∙ later (g .0 .0) (bit.carriedOf (g .0 .1 .0)) i (c .before .if1 .left) ∙ ap (at i) (sym (g .1))
+    c .carried .ensures ∙ getD-later (g .0 .0) (bit.carriedOf (g .0 .1 .0)) 0 i (c .before .if1 .left) ∙ ap (at i) (sym (g .1))
 
 returns-3 : tie.Need-returns-3
 returns-3 c =
