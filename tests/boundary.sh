@@ -1,5 +1,5 @@
 #!/usr/bin/env bash
-# The boundary as C and Rust see it: the header, the library by itself, the C example, hostile input, the stack that it
+# The boundary as C and Rust see it: the header, the library by itself, the C examples, hostile input, the stack that it
 # takes and the Rust crate. Wants libsamopute_c.a and libsamopute_run.a in target/staticlib (rt staticlib samopute_c,
 # rt staticlib samopute_run), or the folder of them in SAMOPUTE_LIB_DIR. Last line: 'N passed, M failed'.
 set -u

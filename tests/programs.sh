@@ -1,6 +1,6 @@
 #!/usr/bin/env bash
 # The built programs on what one stdin file cannot hold: no input, no last newline, very long lines, any bytes at all.
-# Last line: 'N passed, M failed'.
+# Wants them in target/bin (rt check). Last line: 'N passed, M failed'.
 set -u
 cd "$(dirname "$0")/.." || exit 1
 program=bitcalls
@@ -111,7 +111,7 @@ same "a carriage return is no digit, and the last line may lack its newline"
 printf 'F 14\nF 14\nR 0 - 0 8 A 1 U8 1\nE 8 1\nD -\n' >"$work/wanted"
 same "lines of 8,192 bytes and of one more"
 
-# 1,784 readings to a case: a set of 60 fields of one bit, and of as many elements as there are.
+# 1,741 readings to a case: a counter, and a set of 60 fields of one bit with its 29 elements.
 { printf '9999 223 1003D,800'; for _ in $(seq 60); do printf ',100'; done; printf ',1E0000003C0001 1D'; digits 444; echo; } >"$work/one"
 target/bin/readcalls <"$work/one" >"$work/lines"
 if [ "$(wc -l <"$work/lines")" -eq 1743 ] && [ "$(tail -n 2 "$work/lines" | tr '\n' ' ')" = 'E 1748 1741 D - ' ]; then

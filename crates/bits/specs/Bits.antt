@@ -23,7 +23,7 @@ unfoldable pub sumBits : (ℕ → ℕ) → ℕ → ℕ
 sumBits f zero = 0
 sumBits f (suc n) = sumBits f n + f n * 2 ^ n
 
--- "A read of n bits is the sum of bit (cursor + k) times 2^k"
+-- "A read of n bits [..] is the sum of bit (cursor + k) times 2^k"
 abbrev pub bitsAt : List ℕ → ℕ → ℕ → ℕ
 bitsAt bytes at n = sumBits (λ (k : ℕ). bitAt bytes (at + k)) n
 

@@ -100,7 +100,7 @@ readOf s c n max = readIn (roomOf (length s) (place c) n max) s c n
 abbrev pub readU64Of : List ℕ → Cursor → ℕ → ReadU64
 readU64Of s c n = readOf s c n widthMax
 
--- "`read_u8`, `read_u16`, `read_u32` refuse above 8, 16, 32 with that maximum": the same answer, the number at its own type
+-- "`read_u8`, `read_u16`, `read_u32` [..] refuse above 8, 16, 32 with that maximum": the same answer, the number at its own type
 abbrev pub as32 : ReadU64 → ReadU32
 as32 (read64.Got v next) = read32.Got v next
 as32 (read64.Refused e) = read32.Refused e

@@ -1,5 +1,5 @@
-// The inside of the number read and the number write. Only here are 64-bit numbers shifted by a
-// variable count.
+// The inside of the number read and the number write. Nowhere else in this crate are 64-bit numbers
+// shifted by a variable count.
 ghost use mathlib.Core.Path.{_≡_};
 ghost use Prim.Native.Nat.{_+_, _*_, _%_, _^_, _≤_, _<_};
 ghost use lib.ListN.{length};

@@ -15,7 +15,7 @@ abbrev pub topOf : ℕ → Bool → ℕ
 topOf n true = 2 ^ (n - 1) - 1
 topOf n false = 2 ^ n - 1
 
--- "Not available: for raws other than Float, [that number], at 2 bits or more. All else is available"
+-- "Not available: [..] for raws other than Float, [that number], at 2 bits or more. All else is available"
 abbrev pub rawAvailabilityOf : ℕ → Bool → ℕ → Availability
 rawAvailabilityOf n signed raw = pick (leb 2 n) (pick (eqb raw (topOf n signed)) NotAvailable Available) Available
 

@@ -36,7 +36,7 @@ abbrev pub byCheck : Checked → Prepared
 byCheck checked.Accepted = Ready
 byCheck (checked.Refused rule index) = Refused (TableRefused rule index)
 
--- "payload over 223 bytes, or padding run not of 223: length (payload's first)"; "7, 8, then the walk"
+-- "payload [..] over 223 bytes, or padding run not of 223", "length (payload's first)"; "7, 8, then the walk"
 abbrev pub preparedOf : Table → ℕ → ℕ → Prepared
 preparedOf t received padded =
     pick (ltb payloadMax received) (Refused (WrongLength (bytes received)))

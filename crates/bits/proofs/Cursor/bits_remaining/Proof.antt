@@ -10,15 +10,12 @@ use Rattle.bits.proofs.Cursor.bits_remaining.Lts as lts
 use Rattle.bits.proofs.limits.bits_of.Reads as bits-of-reads
 use Rattle.bits.proofs.limits.less.Reads as less-reads
 
--- src/lib.rt:127:13
 bits-of-requires : tie.Need-bits-of-requires
 bits-of-requires c κs = search needs
 
--- src/lib.rt:128:13
 less-requires : tie.Need-less-requires
 less-requires c κs = search needs
 
--- src/lib.rt:123:5
 returns : tie.Need-returns
 returns c = ap bits (c .less .ensures ∙ ap (λ (e : ℕ). e - c .before .before .before .args .self .at .0) (c .before .bits-of .ensures))
 

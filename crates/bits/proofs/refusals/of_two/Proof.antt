@@ -10,11 +10,9 @@ use Rattle.bits.proofs.refusals.of_two.Tie as tie
 use Rattle.bits.proofs.refusals.of_two.Reads as reads
 use Rattle.bits.proofs.refusals.of_two.Lts as lts
 
--- src/refusals.rt:65:9
 returns : tie.Need-returns
 returns c = search needs
 
--- src/refusals.rt:68:9
 returns-2 : tie.Need-returns-2
 returns-2 c = search needs
 

@@ -14,43 +14,33 @@ use Rattle.bits.proofs.limits.least.Reads as least-reads
 use Rattle.bits.proofs.runs.gather_slow.Reads as gather-slow-reads
 use Rattle.bits.proofs.runs.word.Reads as word-reads
 
--- src/runs.rt:39:31
 sub-least : tie.Need-sub-least
 sub-least c = search needs
 
--- src/runs.rt:39:13
 least-requires : tie.Need-least-requires
 least-requires c κs = search needs
 
--- src/runs.rt:40:22
 mul-o : tie.Need-mul-o
 mul-o c = search needs
 
--- src/runs.rt:40:17
 sub-o : tie.Need-sub-o
 sub-o c = search needs
 
--- src/runs.rt:41:12
 add-if2 : tie.Need-add-if2
 add-if2 c = search needs
 
--- src/runs.rt:42:17
 word-requires : tie.Need-word-requires
 word-requires c κs = search needs
 
--- src/runs.rt:43:21
 shr-result : tie.Need-shr-result
 shr-result c = search needs
 
--- src/runs.rt:43:58
 sub-result : tie.Need-sub-result
 sub-result c = search needs
 
--- src/runs.rt:43:32
 shr-result-2 : tie.Need-shr-result-2
 shr-result-2 c = search needs
 
--- src/runs.rt:43:13
 returns : tie.Need-returns
 returns c =
     let b = c .before .before in
@@ -60,11 +50,9 @@ returns c =
     let e : q * 8 + o ≡ a .at = omega arith in
     rw (c .word .ensures) (taken (now (a .s)) q o (a .n) (c .before .if2 .taken) ∙ ap (λ (p : ℕ). bitsAt (now (a .s)) p (a .n)) e)
 
--- src/runs.rt:46:5
 gather-slow-requires : tie.Need-gather-slow-requires
 gather-slow-requires c κs = search needs
 
--- src/runs.rt:34:1
 returns-2 : tie.Need-returns-2
 returns-2 c = search needs
 

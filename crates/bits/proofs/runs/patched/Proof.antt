@@ -18,30 +18,24 @@ use Rattle.bits.proofs.runs.patched.Reads as reads
 use Rattle.bits.proofs.runs.patched.Lts as lts
 use Rattle.bits.proofs.runs.wide.Reads as wide-reads
 
--- src/lib.rt:179:9
 wide-requires : tie.Need-wide-requires
 wide-requires c κs = search needs
 
--- src/lib.rt:180:14
 shl-m : tie.Need-shl-m
 shl-m c = search needs
 
--- src/lib.rt:180:13
 sub-m : tie.Need-sub-m
 sub-m c =
     let t = c .before .args .t in
     let l : t < 64 = omega arith in
     subst (λ (x : ℕ). 1 ≤ x) (sym (one-shl t l)) (pow-pos t)
 
--- src/lib.rt:181:13
 shl-result : tie.Need-shl-result
 shl-result c = search needs
 
--- src/lib.rt:181:25
 shl-result-2 : tie.Need-shl-result-2
 shl-result-2 c = search needs
 
--- src/lib.rt:181:5
 -- the byte as the code has it
 code : (b o t x : ℕ) → o + t ≤ 8 → b < 2 ^ 8
     → bitOr (bitAnd b (2 ^ 64 - 1 - (1 * 2 ^ t % 2 ^ 64 - 1) * 2 ^ o % 2 ^ 64)) (bitAnd x (1 * 2 ^ t % 2 ^ 64 - 1) * 2 ^ o % 2 ^ 64) ≡ patch b o t x

@@ -1,3 +1,4 @@
+-- `bits::runs::word` meets its contract: the eight bytes, each shifted to its place. Assumes nothing.
 use borrow.Author.Needs.{needs}
 use denote.Ref.{now}
 use Rattle.bits.proofs.Words.{word-code}
@@ -7,99 +8,75 @@ use Rattle.bits.proofs.runs.word.Reads as reads
 use Rattle.bits.proofs.runs.word.Lts as lts
 use Rattle.bits.proofs.runs.wide.Reads as wide-reads
 
--- src/lib.rt:128:10
 shared-slice-read-wide : tie.Need-shared-slice-read-wide
 shared-slice-read-wide c = search needs
 
--- src/lib.rt:128:5
 wide-requires : tie.Need-wide-requires
 wide-requires c κs = search needs
 
--- src/lib.rt:129:19
 add-wide : tie.Need-add-wide
 add-wide c = search needs
 
--- src/lib.rt:129:17
 shared-slice-read-wide-2 : tie.Need-shared-slice-read-wide-2
 shared-slice-read-wide-2 c = search needs
 
--- src/lib.rt:129:12
 wide-requires-2 : tie.Need-wide-requires-2
 wide-requires-2 c κs = search needs
 
--- src/lib.rt:130:19
 add-wide-2 : tie.Need-add-wide-2
 add-wide-2 c = search needs
 
--- src/lib.rt:130:17
 shared-slice-read-wide-3 : tie.Need-shared-slice-read-wide-3
 shared-slice-read-wide-3 c = search needs
 
--- src/lib.rt:130:12
 wide-requires-3 : tie.Need-wide-requires-3
 wide-requires-3 c κs = search needs
 
--- src/lib.rt:131:19
 add-wide-3 : tie.Need-add-wide-3
 add-wide-3 c = search needs
 
--- src/lib.rt:131:17
 shared-slice-read-wide-4 : tie.Need-shared-slice-read-wide-4
 shared-slice-read-wide-4 c = search needs
 
--- src/lib.rt:131:12
 wide-requires-4 : tie.Need-wide-requires-4
 wide-requires-4 c κs = search needs
 
--- src/lib.rt:132:19
 add-wide-4 : tie.Need-add-wide-4
 add-wide-4 c = search needs
 
--- src/lib.rt:132:17
 shared-slice-read-wide-5 : tie.Need-shared-slice-read-wide-5
 shared-slice-read-wide-5 c = search needs
 
--- src/lib.rt:132:12
 wide-requires-5 : tie.Need-wide-requires-5
 wide-requires-5 c κs = search needs
 
--- src/lib.rt:133:19
 add-wide-5 : tie.Need-add-wide-5
 add-wide-5 c = search needs
 
--- src/lib.rt:133:17
 shared-slice-read-wide-6 : tie.Need-shared-slice-read-wide-6
 shared-slice-read-wide-6 c = search needs
 
--- src/lib.rt:133:12
 wide-requires-6 : tie.Need-wide-requires-6
 wide-requires-6 c κs = search needs
 
--- src/lib.rt:134:19
 add-wide-6 : tie.Need-add-wide-6
 add-wide-6 c = search needs
 
--- src/lib.rt:134:17
 shared-slice-read-wide-7 : tie.Need-shared-slice-read-wide-7
 shared-slice-read-wide-7 c = search needs
 
--- src/lib.rt:134:12
 wide-requires-7 : tie.Need-wide-requires-7
 wide-requires-7 c κs = search needs
 
--- src/lib.rt:135:19
 add-wide-7 : tie.Need-add-wide-7
 add-wide-7 c = search needs
 
--- src/lib.rt:135:17
 shared-slice-read-wide-8 : tie.Need-shared-slice-read-wide-8
 shared-slice-read-wide-8 c = search needs
 
--- src/lib.rt:135:12
 wide-requires-8 : tie.Need-wide-requires-8
 wide-requires-8 c κs = search needs
 
--- src/lib.rt:124:1
 returns : tie.Need-returns
 returns c =
     let w8 = c in

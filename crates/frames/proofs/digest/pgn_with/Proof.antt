@@ -6,19 +6,15 @@ use Rattle.frames.proofs.digest.pgn_with.Tie as tie
 use Rattle.frames.proofs.digest.pgn_with.Reads as reads
 use Rattle.frames.proofs.digest.pgn_with.Lts as lts
 
--- src/digest.rt:66:16
 mul-result : tie.Need-mul-result
 mul-result c = search needs
 
--- src/digest.rt:66:16
 add-result : tie.Need-add-result
 add-result c = search needs
 
--- src/digest.rt:66:9
 returns : tie.Need-returns
 returns c = simp (lt-ltb _ _ (c .before .if1 .taken))
 
--- src/digest.rt:61:1
 returns-2 : tie.Need-returns-2
 returns-2 c = simp (le-ltb _ _ (c .if1 .left))
 
