@@ -5,32 +5,26 @@ ghost use lib.ListN.{length};
 ghost use Rattle.offers.specs.Records.{wordAt, encodingIn, textAt, recordAt, countOf, valuesIn};
 use crate::Offer;
 use crate::kinds::offer_of;
+use bits::BitPos;
 use bits::ByteCount;
+use bits::Cursor;
+use bits::ReadU64;
 use descriptor::Encoding;
 use descriptor::PgnBytes;
 use descriptor::PgnValue;
 
 const RECORD_BYTES: usize = 24;
 
-fn wide(x: u8) -> u64
-    ensures { λ r. ⌜ r ≡ x ⌝ }
-{
-    x as u64
-}
-
-// The 8 bytes from byte q on, the lowest first. The compiler makes one load of them.
+// The 8 bytes from byte q on, the lowest first.
 fn word_at(s: &[u8], q: usize) -> u64
     requires { ⌜ q + 8 ≤ length (now s) ⌝ }
     ensures { λ r. ⌜ r ≡ wordAt (now (s .entry)) q ⌝ }
 {
-    wide(s[q])
-        | (wide(s[q + 1]) << 8)
-        | (wide(s[q + 2]) << 16)
-        | (wide(s[q + 3]) << 24)
-        | (wide(s[q + 4]) << 32)
-        | (wide(s[q + 5]) << 40)
-        | (wide(s[q + 6]) << 48)
-        | (wide(s[q + 7]) << 56)
+    let c = Cursor { at: BitPos(0) };
+    match c.read_u64(&s[q..q + 8], 64) {
+        ReadU64::Got { value, next: _ } => value,
+        ReadU64::Refused(_) => 0,
+    }
 }
 
 fn encoding_in(mark: u8, byte: u8) -> Encoding
