@@ -1,16 +1,16 @@
 -- A turn of a write: what the patched byte is, in bits and as the code has it. Assumes nothing.
-use mathlib.Core.Path.{_≡_, refl, sym, ap, ap₂, _∙_, subst}
+use mathlib.Core.Path.{_≡_, sym, ap, ap₂, _∙_, subst}
 use mathlib.Core.Logic.{⊎-elim}
 use mathlib.Core.List.{List}
 use Prim.Native.Nat.{ℕ, _+_, _*_, _/_, _%_, _-_, _^_, _≤_, _<_}
-use native.Mathlib.Nat.{mod-lt, mod-eq-of-lt, add-assoc, add-zero, mul-assoc, lt-of-le-of-lt, lt-of-lt-of-le}
+use native.Mathlib.Nat.{mod-lt, mod-eq-of-lt, add-assoc, add-zero, mul-assoc}
 use native.Mathlib.Omega.{arith}
 use lib.ListN.{length, getD, set, length-set}
 use lib.Seq.{ext-getD, getD-set-same, getD-set-other}
 use lib.Arith.{digits-lt}
-use lib.Pow.{pow-pos, pow-add, pow-mono, shl-exact, shr-le, shr-lt, shr-shr, split, ones-lt, high-ones}
+use lib.Pow.{pow-pos, pow-add, pow-mono, shl-exact, shr-lt, shr-shr, split, ones-lt, high-ones}
 use lib.Bits.{bitAnd, bitOr, and-mask, and-block, and-high, or-block, or-shifted, or-zero-r}
-use Rattle.bits.specs.Bits.{bit, bitAt, sumBits, putBit, written}
+use Rattle.bits.specs.Bits.{bit, sumBits, putBit, written}
 use Rattle.bits.specs.Patch.{patch}
 use Rattle.bits.proofs.Sums.{sum-ext, sum-add, sum-bits, cut-high, cut-low}
 use Rattle.bits.proofs.Written.{below, length-from, byte-from, put-in, put-early, put-late, put-lt}

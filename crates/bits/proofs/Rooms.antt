@@ -1,13 +1,13 @@
 -- What it says that a call is not refused, and when it is not. Assumes nothing.
 use mathlib.Core.Path.{_≡_, refl}
-use mathlib.Core.Bool.{Bool, true, false, not}
+use mathlib.Core.Bool.{Bool, true, false}
 use Prim.Native.Nat.{ℕ, _+_, _-_, _*_, _/_, _%_, _≤_, _<_}
 use native.Mathlib.Omega.{arith}
-use lib.Dec.{ltb, eqb}
+use lib.Dec.{eqb}
 use borrow.Author.Tests.{ltb-false, eqb-false, eqb-true, not-false, le-ltb, ne-eqb, eq-eqb}
 use Rattle.bits.specs.declared.BitRefusal.{BitRefusal}
 use Rattle.bits.specs.declared.Room.{Room}
-use Rattle.bits.specs.declared.Room.the-variants.{Fits, Refused}
+use Rattle.bits.specs.declared.Room.the-variants.{Fits}
 use Rattle.bits.specs.Calls.{refuse, roomOf, sliceRoomOf}
 
 not-refused : (t : Bool) (e : BitRefusal) (b : Room) → refuse t e b ≡ Fits → (t ≡ false) × (b ≡ Fits)

@@ -1,18 +1,17 @@
 -- The laws of slice calls: a written slice reads as its source, in bits and whole, and apart from it all stays.
 -- Assumes nothing.
-use mathlib.Core.Path.{_≡_, refl, sym, ap, ap₂, _∙_, subst}
+use mathlib.Core.Path.{_≡_, sym, ap, ap₂, _∙_}
 use mathlib.Core.Logic.{_⊎_, inl, inr, ⊎-elim}
 use mathlib.Core.List.{List, _++_}
 use Prim.Native.Nat.{ℕ, _+_, _-_, _*_, _/_, _%_, _≤_, _<_}
 use native.Mathlib.Omega.{arith}
-use lib.ListN.{length, getD, take, drop, List·getD-append, length-drop, length-take}
+use lib.ListN.{length, getD, take, drop, List·getD-append, length-drop}
 use lib.Seq.{ext-getD, paste, length-paste, length-paste-head, getD-take, getD-drop, length-take-le, getD-append-add}
-use Rattle.bits.specs.Bits.{bit, bitAt, bitsAt}
+use Rattle.bits.specs.Bits.{bit, bitsAt}
 use Rattle.bits.specs.declared.Cursor.{Cursor}
 use Rattle.bits.specs.declared.Room.{Room}
-use Rattle.bits.specs.declared.Room.the-variants as room
 use Rattle.bits.specs.declared.ReadSlice.the-variants as slice
-use Rattle.bits.specs.Calls.{bytes, place, movedBy, sliceRoomOf, readSliceIn, readSliceOf, partOf, slicedIn, slicedOf}
+use Rattle.bits.specs.Calls.{bytes, place, movedBy, readSliceIn, readSliceOf, partOf, slicedIn, slicedOf}
 use Rattle.bits.proofs.Sums.{sum-ext}
 use Rattle.bits.proofs.Rooms.{Whole, slice-fits}
 

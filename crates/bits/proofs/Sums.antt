@@ -1,8 +1,8 @@
 -- Laws of `sumBits`: what a run of bits is as a number. Assumes nothing.
 use mathlib.Core.Path.{_≡_, refl, sym, ap, ap₂, _∙_, subst}
-use Prim.Native.Nat.{ℕ, zero, suc, _+_, _*_, _/_, _%_, _-_, _^_, _≤_, _<_}
-use native.Mathlib.Nat.{add-zero, add-suc, add-assoc, add-comm, add-left-comm, mul-left-comm, zero-mul, zero-add, mul-one, add-mul, mul-assoc, mul-comm, mod-one, mod-lt, mod-eq-of-lt, div-one, zero-lt-suc, pow-suc}
-use native.Mathlib.Numerals.{one-add, add-one}
+use Prim.Native.Nat.{ℕ, zero, suc, _+_, _*_, _/_, _%_, _-_, _^_, _<_}
+use native.Mathlib.Nat.{add-zero, add-suc, add-assoc, add-comm, add-left-comm, mul-left-comm, zero-mul, zero-add, mul-one, add-mul, mul-assoc, mul-comm, mod-one, zero-lt-suc, pow-suc}
+use native.Mathlib.Numerals.{one-add}
 use native.Mathlib.Omega.{arith}
 use lib.Arith.{digits-lt, digits-mod}
 use lib.Pow.{pow-add, mod-pow-add, high, low}

@@ -5,7 +5,7 @@ use mathlib.Core.List.{List, _∷_}
 use Prim.Native.Nat.{ℕ, zero, suc, _+_, _*_, _/_, _%_, _-_, _^_, _≤_, _<_}
 use native.Mathlib.Omega.{arith}
 use lib.ListN.{length, getD, set}
-use Rattle.bits.specs.Bits.{bit, bitAt, bitsAt, sumBits, putBit, fromBits, written}
+use Rattle.bits.specs.Bits.{bitAt, bitsAt, sumBits, putBit, fromBits, written}
 use Rattle.bits.specs.Patch.{patch}
 use Rattle.bits.proofs.Sums.{sum-ext, sum-lt, bit-sum}
 use Rattle.bits.proofs.Turns.{bit-lt}

@@ -1,14 +1,14 @@
 -- A run of bits out of a word of 8 bytes. Assumes nothing.
-use mathlib.Core.Path.{_≡_, refl, sym, ap, ap₂, _∙_, subst}
+use mathlib.Core.Path.{_≡_, refl, sym, ap, ap₂, _∙_}
 use mathlib.Core.List.{List}
 use Prim.Native.Nat.{ℕ, _+_, _*_, _/_, _%_, _-_, _^_, _≤_, _<_}
 use native.Mathlib.Nat.{mod-eq-of-lt, div-one}
 use native.Mathlib.Omega.{arith}
 use lib.Dec.{lit≤}
 use lib.ListN.{getD}
-use lib.Pow.{shl-exact, ones-split, high, ones-lt, field}
+use lib.Pow.{shl-exact, ones-split, high, ones-lt}
 use lib.Bits.{bitAnd, bitOr, and-mask, or-shifted-r}
-use Rattle.bits.specs.Bits.{bit, bitAt, bitsAt, sumBits}
+use Rattle.bits.specs.Bits.{bitAt, bitsAt}
 use Rattle.bits.proofs.Sums.{sum-ext, cut-high, cut-low}
 use Rattle.bits.proofs.Turns.{bit-lt, bits-lt, in-byte, more}
 

@@ -1,7 +1,7 @@
 -- Laws of a written buffer: its length and its bits, what is read back and what stays. Assumes nothing.
 use mathlib.Core.Path.{_≡_, refl, sym, ap, ap₂, _∙_, subst}
 use mathlib.Core.Logic.{_⊎_, inl, inr, ⊎-elim}
-use mathlib.Core.List.{List, [], _∷_}
+use mathlib.Core.List.{List}
 use Prim.Native.Nat.{ℕ, zero, suc, _+_, _*_, _/_, _%_, _-_, _^_, _≤_, _<_, zero-le}
 use native.Mathlib.Nat.{zero-add, add-sub-cancel-left, mod-eq-of-lt}
 use native.Mathlib.Omega.{arith}

@@ -5,7 +5,7 @@ use mathlib.Core.Bool.{Bool, true, false, not}
 use lib.ListN.{length, take, drop}
 use lib.Seq.{paste}
 use lib.Dec.{ltb, eqb}
-use Rattle.bits.specs.Bits.{pick, bitsAt, written}
+use Rattle.bits.specs.Bits.{bitsAt, written}
 use Rattle.bits.specs.declared.BitPos.{BitPos}
 use Rattle.bits.specs.declared.ByteCount.{ByteCount}
 use Rattle.bits.specs.declared.Cursor.{Cursor}

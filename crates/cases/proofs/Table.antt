@@ -24,7 +24,6 @@ use Rattle.descriptor.specs.declared.FieldDescriptor.{FieldDescriptor}
 use Rattle.descriptor.specs.declared.Resolution.the-variants.{Unscaled}
 use Rattle.descriptor.specs.declared.Encoding.{Encoding}
 use Rattle.descriptor.specs.declared.Encoding.the-variants as encoding
-use Rattle.descriptor.specs.declared.Availability.{Availability}
 use Rattle.descriptor.specs.declared.Availability.the-variants.{NotAvailable}
 use Rattle.tables.specs.Table.{Table, tableOf}
 use Rattle.tables.specs.Rules.{declaredBits}

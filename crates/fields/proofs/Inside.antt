@@ -1,15 +1,14 @@
 -- A field that can be read lies in the payload. Assumes nothing.
-use mathlib.Core.Path.{_≡_, refl, sym, ap, _∙_}
+use mathlib.Core.Path.{_≡_, refl}
 use mathlib.Core.Bool.{Bool, true, false}
-use Prim.Native.Nat.{ℕ, _+_, _-_, _*_, _/_, _%_, _≤_, _<_}
+use Prim.Native.Nat.{ℕ, _+_, _-_, _*_, _/_, _≤_}
 use native.Mathlib.Omega.{arith}
 use lib.Dec.{eqb, ltb}
-use borrow.Author.Tests.{eqb-true, eqb-false, ltb-false}
+use borrow.Author.Tests.{eqb-true}
 use Rattle.bits.specs.Bits.{pick}
 use Rattle.bits.specs.declared.Room.{Room}
 use Rattle.bits.specs.declared.Room.the-variants as room
 use Rattle.bits.proofs.Rooms.{fitting, whole}
-use Rattle.descriptor.specs.declared.FieldDescriptor.{FieldDescriptor}
 use Rattle.fields.specs.declared.DecodeRefusal.{DecodeRefusal}
 use Rattle.fields.specs.declared.DecodeRefusal.the-variants.{InvalidDataLength}
 use Rattle.fields.specs.declared.Shape.{Shape}
@@ -17,7 +16,7 @@ use Rattle.fields.specs.declared.Shape.the-variants.{Number, Gap, Fixed,
 use Rattle.fields.specs.declared.Taken.{Taken}
 use Rattle.fields.specs.declared.Taken.the-variants.{Took, Refused}
 use Rattle.fields.specs.Payload.{Payload}
-use Rattle.fields.specs.Taken.{ifRoom, shortOf, ifLength, roomAt, bytesRoom, textRoom, fixedBytes, lauTaken, closedBy, closedAt, lzTaken, takenBy}
+use Rattle.fields.specs.Taken.{ifRoom, shortOf, roomAt, bytesRoom, textRoom, fixedBytes, lauTaken, closedBy, closedAt, lzTaken, takenBy}
 
 module _ (p : Payload) (at : ℕ) where
   -- the n bits from `at` on

@@ -2,10 +2,9 @@
 use mathlib.Core.Path.{_≡_, refl, sym, ap, ap₂, _∙_}
 use mathlib.Core.Bool.{Bool, true, false, _&&_}
 use mathlib.Core.List.{List}
-use Prim.Native.Nat.{ℕ, _+_, _-_, _*_, _/_, _%_, _≤_, _<_, min}
+use Prim.Native.Nat.{ℕ, _+_, _-_, _*_, _/_, _≤_, _<_, min}
 use native.Mathlib.Omega.{arith}
-use lib.Dec.{eqb, ltb}
-use lib.ListN.{length}
+use lib.Dec.{ltb}
 use borrow.Author.Tests.{le-ltb, lt-ltb}
 use Rattle.bits.specs.Bits.{pick, bitsAt}
 use Rattle.bits.specs.Calls.{bits, cursorAt, place, readIn, as8, advanceIn}
@@ -18,11 +17,10 @@ use Rattle.bits.specs.declared.Moved.{Moved}
 use Rattle.bits.specs.declared.Moved.the-variants as moved
 use Rattle.bits.specs.declared.ReadU8.{ReadU8}
 use Rattle.bits.specs.declared.ReadU8.the-variants as read8
-use Rattle.descriptor.specs.declared.Encoding.{Encoding}
 use Rattle.descriptor.specs.declared.Encoding.the-variants as encoding
 use Rattle.descriptor.specs.declared.FieldDescriptor.{FieldDescriptor}
 use Rattle.numbers.specs.Scaling.{scaleOf}
-use Rattle.fields.specs.declared.DecodeRefusal.the-variants.{BitReaderError, InvalidDataLength}
+use Rattle.fields.specs.declared.DecodeRefusal.the-variants.{InvalidDataLength}
 use Rattle.fields.specs.declared.Raw.the-variants as raw
 use Rattle.fields.specs.declared.Shape.{Shape}
 use Rattle.fields.specs.declared.Shape.the-variants as shape
@@ -31,8 +29,8 @@ use Rattle.fields.specs.declared.Taken.the-variants as taken
 use Rattle.fields.specs.declared.FieldRead.{FieldRead}
 use Rattle.fields.specs.declared.FieldRead.the-variants as read
 use Rattle.fields.specs.Payload.{Payload, payloadOf, bitsLeft}
-use Rattle.fields.specs.Taken.{ifRoom, ifLength, shortOf, roomAt, bytesRoom, textRoom, fixedBytes, lauTaken, closedAt, lzTaken}
-use Rattle.fields.specs.Content.{textAt, encodingIn, textRead, refusedOf, readOver}
+use Rattle.fields.specs.Taken.{ifRoom, ifLength, shortOf, roomAt, textRoom, fixedBytes, lauTaken, closedAt, lzTaken}
+use Rattle.fields.specs.Content.{textAt, textRead, refusedOf, readOver}
 
 eighth : (n : ℕ) → 8 * n / 8 ≡ n
 eighth n = omega arith

@@ -17,7 +17,6 @@ use Rattle.descriptor.specs.declared.Availability.{Availability}
 use Rattle.descriptor.specs.declared.Availability.the-variants.{Available, NotAvailable}
 use Rattle.numbers.specs.Scaling.{scaleOf}
 use Rattle.numbers.specs.Special.{numberAvailabilityOf}
-use Rattle.fields.specs.declared.DecodeRefusal.{DecodeRefusal}
 use Rattle.fields.specs.declared.DecodeRefusal.the-variants.{BitReaderError}
 use Rattle.fields.specs.declared.Raw.{Raw}
 use Rattle.fields.specs.declared.Raw.the-variants as raw

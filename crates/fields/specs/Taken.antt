@@ -1,6 +1,6 @@
 -- The bits that a field takes at a place, or why it cannot be read: document 01, "Reading a payload". i is the field's number, which a
 -- refusal names; `early` says that it is the last field of the table, outside a set.
-use Prim.Native.Nat.{ℕ, _+_, _-_, _*_, _/_, _%_, min}
+use Prim.Native.Nat.{ℕ, _+_, _-_, _*_, _/_, min}
 use mathlib.Core.Bool.{Bool, true, false, _&&_}
 use lib.Dec.{ltb, eqb}
 use Rattle.bits.specs.Bits.{pick}
@@ -9,7 +9,6 @@ use Rattle.bits.specs.declared.Room.{Room}
 use Rattle.bits.specs.declared.Room.the-variants as room
 use Rattle.tables.specs.Check.{payloadMax}
 use Rattle.descriptor.specs.declared.FieldDescriptor.{FieldDescriptor}
-use Rattle.fields.specs.declared.DecodeRefusal.{DecodeRefusal}
 use Rattle.fields.specs.declared.DecodeRefusal.the-variants.{BitReaderError, InvalidDataLength}
 use Rattle.fields.specs.declared.Taken.{Taken}
 use Rattle.fields.specs.declared.Taken.the-variants.{Took, Refused}

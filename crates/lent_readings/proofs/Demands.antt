@@ -1,9 +1,9 @@
 -- Demands 2 and 3 for `decode`, by its contract as the source states it. Demand 2 is the contract: the run holds the readings that document 01's rules make of
 -- what was received. Assumes nothing.
-use mathlib.Core.Path.{_≡_, refl, sym, ap, _∙_}
+use mathlib.Core.Path.{_≡_, sym, ap, _∙_}
 use mathlib.Core.List.{List, _∷_, _++_}
 use Prim.Native.Nat.{ℕ, _≤_}
-use lib.ListN.{length, drop}
+use lib.ListN.{length}
 use denote.Ref.{now}
 use Rattle.bits.specs.declared.BitPos.{BitPos}
 use Rattle.tables.specs.Table.{Table, tableOf}
@@ -12,12 +12,11 @@ use Rattle.fields.specs.Payload.{payloadOf}
 use Rattle.reading.specs.declared.Span.{Span}
 use Rattle.reading.specs.declared.Progress.{Progress}
 use Rattle.reading.specs.declared.Reading.{Reading}
-use Rattle.reading.specs.declared.Decoded.{Decoded}
 use Rattle.reading.specs.declared.Decoded.the-variants as decoded
 use Rattle.reading.specs.Filling.{workingOf}
-use Rattle.reading.specs.Decode.{readings, readingsOf, decodedOf}
+use Rattle.reading.specs.Decode.{readings, decodedOf}
 use Rattle.reading.specs.Demand3.{Demand3, unskippedIn, roomEnough}
-use Rattle.reading.proofs.Answered.{Decodes, answers, answered, reads, TwoRuns, enough-room}
+use Rattle.reading.proofs.Answered.{answers, answered, reads, TwoRuns, enough-room}
 use Rattle.reading.proofs.Demand3.{demand-3}
 use Rattle.lent_readings.specs.Run.{entriesOf}
 use Rattle.lent_readings.proofs.OneAnswer.{Decode}

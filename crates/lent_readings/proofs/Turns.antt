@@ -1,36 +1,33 @@
 -- The turns of a decode into a lent run, with no memory in them: where one may begin (`At`), what each leaves (`stored`, `went`), and what holds where they
 -- stop (`ends`). The run is of readings, or of what is made of each. Assumes nothing.
-use mathlib.Core.Path.{_≡_, refl, sym, ap, ap₂, _∙_, subst}
+use mathlib.Core.Path.{_≡_, refl, sym, ap, _∙_, subst}
 use mathlib.Core.Bool.{Bool, true, false, not}
-use mathlib.Core.List.{List, [], _∷_, _++_, append-nil, append-assoc}
+use mathlib.Core.List.{List, [], _∷_, _++_, append-nil}
 use mathlib.Core.WellFounded.{WellFounded, InvImage·wf}
-use Prim.Native.Nat.{ℕ, zero, suc, _+_, _≤_, _<_}
+use Prim.Native.Nat.{ℕ, suc, _+_, _<_}
 use native.Mathlib.Omega.{arith}
 use lib.WfN.{Nat·lt-wfRel}
 use lib.Dec.{T}
-use lib.ListN.{length, drop, set, length-set, length-append}
+use lib.ListN.{length, set, length-set}
 use Rattle.bits.specs.Bits.{pick}
 use Rattle.tables.specs.Table.{Table}
 use Rattle.fields.specs.Payload.{Payload, payloadOf}
-use Rattle.fields.specs.declared.DecodeRefusal.{DecodeRefusal}
 use Rattle.reading.specs.declared.Reading.{Reading}
-use Rattle.reading.specs.declared.Walk.{Walk}
 use Rattle.reading.specs.declared.Answer.{Answer}
 use Rattle.reading.specs.declared.Answer.the-variants as answer
 use Rattle.reading.specs.declared.Next.{Next}
 use Rattle.reading.specs.declared.Prepared.{Prepared}
 use Rattle.reading.specs.declared.Prepared.the-variants.{Ready, Refused}
 use Rattle.reading.specs.declared.Decoded.{Decoded}
-use Rattle.reading.specs.declared.Decoded.the-variants as decoded
-use Rattle.reading.specs.Filling.{workingOf, pickedOf, preparedOf, runAfter}
-use Rattle.reading.specs.Decode.{readings, decodedIn, decodedOf, readInto, readingsOf, walkOf, spansOf, endOf}
+use Rattle.reading.specs.Filling.{workingOf, preparedOf, runAfter}
+use Rattle.reading.specs.Decode.{readings, decodedIn, decodedOf, readInto, readingsOf, walkOf, endOf}
 use Rattle.reading.specs.Steps.{nextOf, startOf, goesOn, handed}
 use Rattle.reading.proofs.Looped.{Going, heft, going, Turned, turned}
 use Rattle.reading.proofs.Seated.{met-room}
-use Rattle.reading.proofs.Working.{picked-working, ready-accepted, run-refused}
+use Rattle.reading.proofs.Working.{picked-working, ready-accepted}
 use Rattle.lent_readings.specs.declared.Step.{Step}
 use Rattle.lent_readings.specs.Run.{entriesOf}
-use Rattle.lent_readings.specs.Steps.{freshStep, onStep, storingStep, overStep, begunBy, answeredBy, turnedBy, stepOf, paddedAfter}
+use Rattle.lent_readings.specs.Steps.{freshStep, onStep, begunBy, answeredBy, turnedBy, stepOf, paddedAfter}
 use Rattle.lending.proofs.Tests.{is-true, is-false}
 
 -- what a run holds: something of each reading

@@ -2,22 +2,20 @@
 -- of the unsigned 64-bit raws is near one, and near 2^64 alone. Assumes nothing.
 use mathlib.Core.Path.{_≡_, refl, sym, ap, ap₂, _∙_, subst}
 use mathlib.Core.Logic.{_⊎_, inl, inr, ⊎-elim}
-use mathlib.Core.Bool.{Bool, true, false, _&&_, _||_, Bool·beq, true≢false, false≢true}
+use mathlib.Core.Bool.{Bool, true, false, _&&_, true≢false, false≢true}
 use Prim.Native.Nat.{ℕ, zero, suc, _+_, _-_, _*_, _/_, _%_, _^_, _≤_, _<_}
-use native.Mathlib.Nat.{div-one, mul-one, one-mul, zero-mul, div-le-self, mul-div-cancel, mul-assoc, lt-of-lt-of-le, lt-of-le-of-lt, mul-le-mul-left, mul-lt-mul-of-pos-right}
+use native.Mathlib.Nat.{div-one, mul-one, div-le-self, mul-div-cancel, mul-assoc, lt-of-lt-of-le, mul-le-mul-left}
 use native.Mathlib.Omega.{arith}
-use lib.Dec.{T, ltb, leb, eqb, ltb→lt, lit≤}
+use lib.Dec.{T, ltb, leb, eqb, ltb→lt}
 use lib.IntN.{ℤ, pos, negsuc}
-use lib.Pow.{pow-pos, pow-mono, pow-add}
+use lib.Pow.{pow-mono, pow-add}
 use lib.Ieee.{Float, nan, inf, fin, binary64, up, down, fits, eq, level, ofBits}
 use lib.Ieee.Fits.{and-l, and-r, down-pos}
-use borrow.Author.Tests.{ltb-true, ltb-false, lt-leb, le-leb, lt-ltb, le-ltb, eqb-true, eq-eqb}
+use borrow.Author.Tests.{ltb-false, lt-leb, eqb-true, eq-eqb}
 use Rattle.bits.specs.Bits.{pick}
 use Rattle.bits.proofs.Written.{below}
 use Rattle.rounding.specs.Truncation.{truncatedOf, below64}
-use Rattle.rounding.specs.declared.Whole.{Whole}
 use Rattle.rounding.specs.declared.Whole.the-variants.{TooBig, Fits}
-use Rattle.numbers.specs.declared.Quantized.{Quantized}
 use Rattle.numbers.specs.declared.Quantized.the-variants.{Raw, OutOfRange}
 use Rattle.numbers.specs.Quantizing.{limitOf, nearlyOf, cutOf}
 

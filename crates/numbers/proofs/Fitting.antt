@@ -1,13 +1,13 @@
 -- A raw that a value is written as fits its field: it is below 2 ^ width. Assumes nothing.
 use mathlib.Core.Path.{_≡_, refl, sym, ap, _∙_}
 use mathlib.Core.Bool.{Bool, true, false}
-use Prim.Native.Nat.{ℕ, suc, _+_, _-_, _*_, _/_, _%_, _^_, _≤_, _<_, min}
+use Prim.Native.Nat.{ℕ, suc, _+_, _-_, _*_, _/_, _^_, _≤_, _<_, min}
 use native.Mathlib.Nat.{mod-lt, lt-of-lt-of-le}
 use native.Mathlib.Omega.{arith}
-use lib.Dec.{T, leb, ltb}
+use lib.Dec.{leb, ltb}
 use lib.IntN.{ℤ, pos, negsuc}
 use lib.Pow.{pow-pos, pow-mono}
-use lib.Ieee.{Float, nan, inf, fin, binary32, binary64, div, up, down, fits, toBits}
+use lib.Ieee.{Float, nan, inf, fin, binary32, binary64, div, up, down}
 use lib.Ieee.Bits.{toBits-lt}
 use borrow.Author.Tests.{leb-true}
 use Rattle.bits.specs.Bits.{pick}
@@ -30,7 +30,7 @@ use Rattle.numbers.specs.declared.RawOf.the-variants.{Raw, OutOfRange, W
 use Rattle.numbers.specs.declared.ScaleRule.{ScaleRule}
 use Rattle.numbers.specs.declared.ScaleRule.the-variants.{Plain, Counted, Lasting, Clock, Real, Flags}
 use Rattle.numbers.specs.Special.{topOf}
-use Rattle.numbers.specs.Scaling.{ruleOf, bitsOf}
+use Rattle.numbers.specs.Scaling.{ruleOf}
 use Rattle.numbers.specs.Held.{Held}
 use Rattle.numbers.specs.Quantizing.{limitOf, complementOf, exactlyOf, nearlyOf, cutOf, roundedOf, integerOf}
 use Rattle.numbers.specs.Conversions.{toF64Of, toI64Of, toU64Of, rangedOf, scaledRawOf, signedRawOf, unsignedRawOf, floatRawOf, wholeRawOf, resolvedOf, numberOf, rawOf}

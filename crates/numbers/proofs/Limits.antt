@@ -1,20 +1,18 @@
 -- Limits, and the cases of quantizing: what a cut that fits answers, and one that does not. Assumes nothing.
-use mathlib.Core.Path.{_≡_, refl, sym, ap, _∙_, subst}
+use mathlib.Core.Path.{_≡_, refl, ap}
 use mathlib.Core.Bool.{Bool, true, false, true≢false, false≢true}
-use Prim.Native.Nat.{ℕ, zero, suc, _+_, _-_, _*_, _/_, _^_, _≤_, _<_}
+use Prim.Native.Nat.{ℕ, _-_, _*_, _/_, _^_, _≤_}
 use native.Mathlib.Omega.{arith}
-use lib.Dec.{T, ltb}
+use lib.Dec.{ltb}
 use lib.IntN.{ℤ, pos, negsuc, natAbs}
-use lib.Pow.{pow-pos, pow-mono}
+use lib.Pow.{pow-mono}
 use lib.Signed.{ltZ}
-use lib.Ieee.{Float, nan, inf, fin, lt, neg, up, down}
+use lib.Ieee.{Float, nan, inf, fin, lt, up, down}
 use lib.Ieee.Scale.{finite}
 use borrow.Author.Tests.{le-ltb}
 use Rattle.rounding.specs.Truncation.{halfAwayOf, truncatedOf, below64}
-use Rattle.rounding.specs.declared.Whole.{Whole}
-use Rattle.rounding.specs.declared.Whole.the-variants.{TooBig, Fits}
-use Rattle.numbers.specs.declared.Quantized.{Quantized}
-use Rattle.numbers.specs.declared.Quantized.the-variants.{Raw, OutOfRange}
+use Rattle.rounding.specs.declared.Whole.the-variants.{Fits}
+use Rattle.numbers.specs.declared.Quantized.the-variants.{OutOfRange}
 use Rattle.numbers.specs.Quantizing.{limitOf, exactlyOf, nearlyOf, cutOf, roundedOf, integerOf}
 
 -- a limit of n bits is at most 2 ^ n

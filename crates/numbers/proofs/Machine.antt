@@ -1,6 +1,6 @@
 -- Signed numbers as the machine reads them back from their bits, after a cast to 64 bits too. Assumes nothing.
-use mathlib.Core.Path.{_≡_, sym, ap, _∙_, subst}
-use Prim.Native.Nat.{ℕ, _<_, _^_, _≤_}
+use mathlib.Core.Path.{_≡_, sym, _∙_, subst}
+use Prim.Native.Nat.{_<_, _^_, _≤_}
 use native.Mathlib.Nat.{lt-of-lt-of-le}
 use lib.IntN.{ℤ}
 use lib.Pow.{pow-mono}

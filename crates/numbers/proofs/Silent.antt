@@ -5,7 +5,6 @@ use Prim.Native.Nat.{ℕ}
 use lib.Ieee.{binary32, isNan, ofBits}
 use lib.Ieee.Bits.{nanBits-is, nanBits-above}
 use Rattle.bits.specs.Bits.{pick}
-use Rattle.descriptor.specs.declared.Availability.{Availability}
 use Rattle.descriptor.specs.declared.Availability.the-variants.{Available, NotAvailable}
 use Rattle.numbers.specs.Special.{floatAvailabilityOf}
 

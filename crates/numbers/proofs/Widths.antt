@@ -1,12 +1,11 @@
 -- Raws of n bits, signed and not: where their top bit is clear or set, and which types hold them. Assumes nothing.
-use mathlib.Core.Path.{_≡_, refl, sym, ap, _∙_, subst}
+use mathlib.Core.Path.{_≡_, sym, ap, _∙_, subst}
 use mathlib.Core.Logic.{_⊎_, ⊎-elim}
 use Prim.Native.Nat.{ℕ, zero, suc, _+_, _-_, _*_, _%_, _^_, _≤_, _<_}
-use native.Mathlib.Nat.{mul-comm, pow-suc, lt-of-lt-of-le}
+use native.Mathlib.Nat.{mul-comm, pow-suc}
 use native.Mathlib.Omega.{arith}
-use lib.Dec.{lit≤, ltb}
-use lib.IntN.{ℤ, pos, negsuc, subℕ}
-use lib.Pow.{pow-pos, pow-mono}
+use lib.IntN.{ℤ, pos, negsuc}
+use lib.Pow.{pow-mono}
 use lib.Signed.{mag}
 use borrow.Author.Tests.{lt-leb, le-leb, lt-ltb}
 use Rattle.bits.proofs.Turns.{one-shl}

@@ -1,6 +1,6 @@
 -- The values that a machine has. The logic's f32 and encoding byte carry numbers without a bound, the machine's do not: a law that needs the
 -- bound asks for it by this name.
-use Prim.Native.Nat.{ℕ, _<_}
+use Prim.Native.Nat.{_<_}
 use lib.Dec.{T}
 use lib.Ieee.{binary32, fits}
 use Rattle.descriptor.specs.declared.Encoding.{Encoding}

@@ -1,6 +1,6 @@
 -- The raws that say something other than a number: document 01, "Reading a payload".
 use Prim.Native.Nat.{ℕ, _-_, _%_, _^_}
-use mathlib.Core.Bool.{Bool, true, false, _&&_}
+use mathlib.Core.Bool.{Bool, true, false}
 use lib.Dec.{leb, ltb, eqb}
 use Rattle.bits.specs.Bits.{pick}
 use Rattle.descriptor.specs.declared.FieldDescriptor.{FieldDescriptor}

@@ -2,7 +2,7 @@
 -- include/samopute.h says the same in C.
 use Prim.Native.Nat.{ℕ, _+_, _*_, _/_, _^_}
 use mathlib.Core.List.{List, [], _∷_}
-use lib.Dec.{eqb, leb, ltb}
+use lib.Dec.{eqb, ltb}
 use lib.Ieee.{binary32, binary64, ofBits}
 use lib.ListN.{length, getD}
 use lib.Signed.{mag}

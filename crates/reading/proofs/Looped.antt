@@ -7,23 +7,18 @@ use native.Mathlib.Omega.{arith}
 use lib.ListN.{length, length-append}
 use lib.Dec.{ltb}
 use Rattle.bits.specs.Bits.{pick}
-use Rattle.bits.specs.declared.BitPos.{BitPos}
-use Rattle.descriptor.specs.declared.PgnValue.{PgnValue}
 use Rattle.tables.specs.Table.{Table}
 use Rattle.tables.specs.Check.{checkOf}
 use Rattle.tables.specs.declared.Checked.the-variants.{Accepted}
 use Rattle.tables.proofs.Accepted.{sizes, placed}
 use Rattle.walking.specs.declared.Element.{Element}
 use Rattle.walking.specs.declared.Place.the-variants.{Starts}
-use Rattle.walking.specs.declared.Spot.{Spot}
-use Rattle.walking.specs.declared.Spot.the-variants as spot
-use Rattle.walking.specs.Runs.{Run, ran, stopped, after}
-use Rattle.walking.specs.Walk.{One, hit, miss, check, placeOf}
+use Rattle.walking.specs.Runs.{Run}
+use Rattle.walking.specs.Walk.{One, hit, check, placeOf}
 use Rattle.walking.specs.Turns.{Turn, moved, met, ended, broke}
-use Rattle.walking.proofs.Machine.{starts-one, rest, Small, Bounded, weight, Falls, moved-falls, met-falls, falls, Stands, stands-begin, stands-moved, stands-met, stands-ended, stands-broke, Meets, meets, met-law, moved-law, ended-law, broke-law}
+use Rattle.walking.proofs.Machine.{starts-one, Bounded, weight, Falls, moved-falls, met-falls, falls, Stands, stands-begin, stands-moved, stands-met, stands-ended, stands-broke, Meets, meets, met-law, moved-law, ended-law, broke-law}
 use Rattle.fields.specs.declared.DecodeRefusal.{DecodeRefusal}
 use Rattle.fields.specs.declared.DecodeRefusal.the-variants.{NoRoom}
-use Rattle.fields.specs.declared.Raw.{Raw}
 use Rattle.fields.specs.declared.Shape.{Shape}
 use Rattle.fields.specs.declared.Shape.the-variants.{Number, Gap, Fixed, Whole, Lau, Lz}
 use Rattle.fields.specs.declared.FieldRead.{FieldRead}

@@ -1,7 +1,7 @@
 -- A reading that a turn hands out has room. Assumes nothing.
-use mathlib.Core.Path.{_≡_, refl, sym, ap, _∙_, subst}
+use mathlib.Core.Path.{_≡_, refl, sym, ap, _∙_}
 use mathlib.Core.Bool.{Bool, true, false}
-use mathlib.Core.List.{List, [], _∷_, _++_}
+use mathlib.Core.List.{List, [], _++_}
 use Prim.Native.Nat.{ℕ, _+_, _≤_, _<_}
 use lib.ListN.{length, length-append}
 use native.Mathlib.Omega.{arith}
@@ -10,7 +10,7 @@ use borrow.Author.Tests.{ltb-true}
 use Rattle.tables.specs.Table.{Table}
 use Rattle.walking.specs.declared.Element.{Element}
 use Rattle.walking.specs.Runs.{Run, ran, stopped}
-use Rattle.walking.specs.Walk.{One, hit, miss, check, walkFrom}
+use Rattle.walking.specs.Walk.{One, hit, check, walkFrom}
 use Rattle.walking.proofs.Lawful.{Lawful, lawful-ran, lawful-stopped, lawful-fields}
 use Rattle.walking.specs.Turns.{Turn, moved, met, ended, broke}
 use Rattle.walking.proofs.Machine.{Meets, meets, met-law}

@@ -1,8 +1,8 @@
 -- What a field that was read says of itself. Assumes nothing.
-use mathlib.Core.Path.{_≡_, refl, sym, ap, _∙_, subst}
-use mathlib.Core.Bool.{Bool, true, false}
+use mathlib.Core.Path.{_≡_, refl, ap, subst}
+use mathlib.Core.Bool.{Bool}
 use mathlib.Core.List.{List, _∷_}
-use Prim.Native.Nat.{ℕ, _+_, _*_, _≤_}
+use Prim.Native.Nat.{ℕ}
 use native.Mathlib.Omega.{arith}
 use Rattle.bits.specs.declared.BitPos.{BitPos}
 use Rattle.descriptor.specs.declared.FieldDescriptor.{FieldDescriptor}
@@ -12,7 +12,6 @@ use Rattle.fields.specs.declared.Shape.{Shape}
 use Rattle.fields.specs.declared.Shape.the-variants.{Number, Gap, Fixed, Whole, Lau, Lz}
 use Rattle.fields.specs.declared.Taken.{Taken}
 use Rattle.fields.specs.declared.Taken.the-variants.{Took, Refused}
-use Rattle.fields.specs.declared.FieldRead.{FieldRead}
 use Rattle.fields.specs.declared.FieldRead.the-variants as read
 use Rattle.reading.specs.declared.Reading.{Reading}
 use Rattle.reading.specs.declared.Span.{Span}

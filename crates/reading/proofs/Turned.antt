@@ -1,11 +1,10 @@
 -- What one turn comes to, by what was read and tested. Assumes nothing.
-use mathlib.Core.Path.{_≡_, refl, sym, ap, ap₂, _∙_}
+use mathlib.Core.Path.{_≡_, refl, sym, ap, _∙_}
 use mathlib.Core.Bool.{Bool, true, false}
-use mathlib.Core.List.{List}
 use Prim.Native.Nat.{ℕ, _+_, _≤_, _<_}
 use lib.Dec.{eqb, leb, ltb}
 use lib.ListN.{getD}
-use borrow.Author.Tests.{lt-ltb, le-ltb, le-leb, lt-leb}
+use borrow.Author.Tests.{lt-ltb, le-ltb}
 use Rattle.bits.specs.Bits.{pick}
 use Rattle.bits.specs.declared.BitPos.{BitPos}
 use Rattle.descriptor.specs.declared.PgnValue.{PgnValue}
@@ -16,7 +15,7 @@ use Rattle.walking.specs.declared.Place.{Place}
 use Rattle.walking.specs.declared.Place.the-variants as place
 use Rattle.walking.specs.declared.Spot.{Spot}
 use Rattle.walking.specs.declared.Spot.the-variants as spot
-use Rattle.walking.specs.Walk.{One, hit, miss, check, placeOf}
+use Rattle.walking.specs.Walk.{One, hit, check, placeOf}
 use Rattle.walking.specs.Turns.{Turn, moved, met, ended, broke, either, seen, turnBy, turnWithin, turn}
 use Rattle.fields.specs.declared.DecodeRefusal.{DecodeRefusal}
 use Rattle.fields.specs.declared.DecodeRefusal.the-variants.{NoRoom}
@@ -31,11 +30,10 @@ use Rattle.reading.specs.declared.Next.{Next}
 use Rattle.reading.specs.declared.Span.{Span}
 use Rattle.reading.specs.declared.Progress.{Progress}
 use Rattle.fields.specs.Payload.{Payload, bitsLeft}
-use Rattle.fields.specs.Shapes.{shapeOf}
 use Rattle.fields.specs.Content.{fieldReadOf}
-use Rattle.reading.specs.Groups.{notedBy, elementCount, tooMany, groupCountOf}
+use Rattle.reading.specs.Groups.{notedBy, tooMany, groupCountOf}
 use Rattle.reading.specs.Decode.{spanAt, progressAt, settled, oneOf, countOf, readingOf}
-use Rattle.reading.specs.Steps.{nextTo, metBy, metOf, shown}
+use Rattle.reading.specs.Steps.{nextTo, metOf, shown}
 use Rattle.reading.proofs.Told.{told, gone}
 
 module _ (t : Table) (p : Payload) (room : ℕ) (here to : Spot) (i : ℕ) (e : Element) (last : Bool) (s : Progress) where

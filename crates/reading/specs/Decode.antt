@@ -2,7 +2,7 @@
 -- each made of its own span.
 use Prim.Native.Nat.{ℕ, _+_}
 use mathlib.Core.List.{List, [], _∷_}
-use mathlib.Core.Bool.{Bool, true, false}
+use mathlib.Core.Bool.{Bool}
 use lib.ListN.{length, getD, replicate}
 use lib.Dec.{ltb}
 use Rattle.bits.specs.Calls.{bits}

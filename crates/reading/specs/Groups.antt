@@ -1,7 +1,7 @@
 -- Counters and the elements of a set: document 01, "Reading a payload", "Group count".
 use Prim.Native.Nat.{ℕ, zero, suc, _/_, min}
 use mathlib.Core.List.{List}
-use lib.ListN.{set, getD}
+use lib.ListN.{set}
 use lib.Dec.{leb, eqb}
 use Rattle.bits.specs.Bits.{pick}
 use Rattle.tables.specs.Table.{Table}

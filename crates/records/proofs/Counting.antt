@@ -1,8 +1,8 @@
 -- The count put in front of the records, and the room of a buffer. Assumes nothing.
-use mathlib.Core.Path.{_≡_, refl, sym, ap, ap₂, _∙_}
+use mathlib.Core.Path.{_≡_, refl, sym, ap, _∙_}
 use mathlib.Core.Bool.{Bool, true, false}
-use mathlib.Core.List.{List, [], _∷_, _++_}
-use Prim.Native.Nat.{ℕ, _+_, _-_, _*_, _/_, _≤_, _<_}
+use mathlib.Core.List.{List, _++_}
+use Prim.Native.Nat.{ℕ, _+_, _-_, _*_, _≤_, _<_}
 use native.Mathlib.Omega.{arith}
 use lib.Dec.{ltb}
 use lib.ListN.{length, take, drop, length-take}
@@ -19,7 +19,7 @@ use Rattle.reading.specs.declared.Reading.{Reading}
 use Rattle.reading.specs.Decode.{readings, spansOf, endOf}
 use Rattle.records.specs.Layout.{bytesOf, records, roomIn, storedIn}
 use Rattle.records.specs.Puts.{puts}
-use Rattle.records.specs.Stretches.{placeAt, Roomy, stored, countIn, counted}
+use Rattle.records.specs.Stretches.{Roomy, stored, countIn, counted}
 use Rattle.records.proofs.Putting.{length-bytes, length-records, puts-in, puts-past}
 use Rattle.records.proofs.Quickly.{length-stored}
 

@@ -1,6 +1,6 @@
 -- A table that is built in: accepted, and filling nothing. Assumes nothing.
-use mathlib.Core.Path.{_≡_, refl, sym, ap, _∙_}
-use mathlib.Core.Bool.{Bool, true, false, _&&_}
+use mathlib.Core.Path.{_≡_, sym, ap, _∙_}
+use mathlib.Core.Bool.{Bool, _&&_}
 use mathlib.Core.List.{List, _++_}
 use Prim.Native.Nat.{ℕ, _-_, _≤_, _<_}
 use lib.Dec.{leb, ltb, eqb}
@@ -10,12 +10,11 @@ use Rattle.bits.specs.Bits.{pick}
 use Rattle.bits.specs.Calls.{bytes}
 use Rattle.tables.specs.Table.{Table}
 use Rattle.tables.specs.Check.{checkOf}
-use Rattle.tables.specs.declared.Checked.{Checked}
 use Rattle.tables.specs.declared.Checked.the-variants.{Accepted}
 use Rattle.fields.specs.declared.DecodeRefusal.the-variants.{WrongLength}
 use Rattle.reading.specs.declared.Prepared.{Prepared}
 use Rattle.reading.specs.declared.Prepared.the-variants.{Ready, Refused}
-use Rattle.reading.specs.Filling.{fills, workingOf, byCheck, preparedOf}
+use Rattle.reading.specs.Filling.{workingOf, byCheck, preparedOf}
 use Rattle.messages.specs.Tables.{words129025, words129026, words129029, words130900}
 use Rattle.records.specs.Pgn.{ofBuiltIn}
 

@@ -1,11 +1,11 @@
 -- Fields hit one after another are turns that lead on, and a walk that turns lead on to still is the walk. Assumes nothing.
-use mathlib.Core.Path.{_≡_, refl, sym, ap, ap₂, _∙_, subst}
+use mathlib.Core.Path.{_≡_, refl, sym, ap, _∙_, subst}
 use mathlib.Core.Bool.{Bool, true, false}
 use mathlib.Core.List.{List, [], _∷_, _++_, append-nil, append-assoc}
 use Prim.Native.Nat.{ℕ, zero, suc, _+_, _-_, _≤_, _<_}
 use native.Mathlib.Omega.{arith}
-use lib.Dec.{eqb, leb, ltb}
-use lib.ListN.{length, length-append}
+use lib.Dec.{eqb, ltb}
+use lib.ListN.{length-append}
 use borrow.Author.Tests.{lt-ltb, le-ltb}
 use Rattle.tables.specs.Table.{Table}
 use Rattle.tables.specs.Check.{checkOf}
@@ -14,11 +14,11 @@ use Rattle.tables.specs.declared.RepeatingFieldSet.{RepeatingFieldSet}
 use Rattle.walking.specs.declared.Element.{Element}
 use Rattle.walking.specs.declared.Element.the-variants.{Outside, At}
 use Rattle.walking.specs.declared.Place.{Place}
-use Rattle.walking.specs.declared.Place.the-variants.{Starts, Inside, Plain}
+use Rattle.walking.specs.declared.Place.the-variants.{Inside, Plain}
 use Rattle.walking.specs.declared.Spot.{Spot}
 use Rattle.walking.specs.declared.Spot.the-variants.{Field, Within}
-use Rattle.walking.specs.Walk.{One, hit, miss, placeOf}
-use Rattle.walking.specs.Turns.{Turn, moved, met, ended, broke, either, seen, turnBy, turnWithin, turn}
+use Rattle.walking.specs.Walk.{One, hit, placeOf}
+use Rattle.walking.specs.Turns.{Turn, moved, met, either, seen, turnBy, turnWithin, turn}
 use Rattle.fields.specs.declared.DecodeRefusal.{DecodeRefusal}
 use Rattle.fields.specs.Payload.{Payload}
 use Rattle.fields.specs.declared.Raw.the-variants.{Absent}
@@ -30,8 +30,8 @@ use Rattle.reading.specs.declared.Next.{Next}
 use Rattle.fields.specs.Shapes.{shapeOf}
 use Rattle.reading.specs.Groups.{tooMany}
 use Rattle.reading.specs.Decode.{oneOf, countOf, readingOf, readings, progressAt}
-use Rattle.reading.specs.Steps.{walkAt, nextTo, metBy, metOf, shown, turnOf, nextOf, goesOn, handed}
-use Rattle.reading.proofs.Looped.{Going, heft, Onward, turned, met-on, one-hands}
+use Rattle.reading.specs.Steps.{walkAt, nextTo, metOf, shown, turnOf, nextOf, goesOn, handed}
+use Rattle.reading.proofs.Looped.{Going, heft, turned, met-on, one-hands}
 use Rattle.records.specs.declared.Stretch.{Stretch}
 use Rattle.records.specs.Layout.{records}
 use Rattle.records.specs.Puts.{puts}

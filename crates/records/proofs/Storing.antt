@@ -1,6 +1,6 @@
 -- What a walk leaves in the buffer: the records of the readings made so far. Assumes nothing.
 use mathlib.Core.Path.{_≡_, refl, sym, ap, _∙_, subst}
-use mathlib.Core.Bool.{Bool, true, false}
+use mathlib.Core.Bool.{true, false}
 use mathlib.Core.List.{List, [], _∷_, _++_, append-nil}
 use Prim.Native.Nat.{ℕ, _+_, _≤_, _<_}
 use native.Mathlib.Omega.{arith}
@@ -19,7 +19,7 @@ use Rattle.reading.specs.Steps.{nextOf, startOf, goesOn, decodedAt, handed}
 use Rattle.reading.proofs.Looped.{Going, heft, going, Turned, turned, comes-to}
 use Rattle.records.specs.Stretches.{stored, Leads}
 use Rattle.records.proofs.Quickly.{stored-then, stored-none}
-use Rattle.records.proofs.Leading.{Further, further}
+use Rattle.records.proofs.Leading.{further}
 
 no-more : (rs : List Reading) → length rs ≡ 0 → rs ≡ []
 no-more [] h = refl

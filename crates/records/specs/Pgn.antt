@@ -2,7 +2,6 @@
 use Prim.Native.Nat.{ℕ}
 use mathlib.Core.List.{List}
 use lib.Dec.{eqb}
-use lib.ListN.{length}
 use Rattle.bits.specs.Bits.{pick}
 use Rattle.tables.specs.Table.{tableOf}
 use Rattle.messages.specs.Tables.{words129025, words129026, words129029, words130900}

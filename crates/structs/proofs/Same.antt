@@ -1,5 +1,5 @@
 -- A struct's bytes, on a machine that puts the low byte first, are those of its reading's record. Assumes nothing.
-use mathlib.Core.Path.{_≡_, refl, ap}
+use mathlib.Core.Path.{_≡_, ap}
 use mathlib.Core.List.{List, [], _∷_}
 use Prim.Native.Nat.{ℕ, _+_, _*_, _^_}
 use native.Mathlib.Omega.{arith}
@@ -7,7 +7,7 @@ use Rattle.descriptor.specs.declared.Encoding.{Encoding}
 use Rattle.descriptor.specs.declared.Encoding.the-variants.{Absent, Byte}
 use Rattle.reading.specs.declared.Reading.{Reading}
 use Rattle.numbers.specs.Words.{codeOf, silenceOf}
-use Rattle.records.specs.Layout.{laid, rawMark, encodingMark, bytesIn, tagBy, recordOf}
+use Rattle.records.specs.Layout.{laid, rawMark, encodingMark, bytesIn, recordOf}
 use Rattle.structs.specs.declared.Record.{Record}
 use Rattle.structs.specs.Structs.{encodingGiven, encodingByte, structOf}
 

@@ -2,14 +2,13 @@
 -- theorems use. Nothing above opens the check's text. Assumes nothing.
 use mathlib.Core.Path.{_≡_, refl, sym, ap, _∙_, subst}
 use mathlib.Core.Logic.{_⊎_, inl, inr, ⊎-elim}
-use mathlib.Core.Bool.{Bool, true, false, not, _&&_, _||_, false≢true, true≢false}
+use mathlib.Core.Bool.{Bool, true, false, not, _&&_, _||_, false≢true}
 use Prim.Native.Nat.{ℕ, zero, suc, _+_, _-_, _%_, _≤_, _<_}
 use native.Mathlib.Omega.{arith}
 use lib.Dec.{leb, ltb, eqb}
 use borrow.Author.Tests.{leb-true, ltb-true, eqb-true, not-true}
 use Rattle.bits.specs.Bits.{pick}
 use Rattle.bits.proofs.Written.{below}
-use Rattle.descriptor.specs.declared.FieldKind.{FieldKind}
 use Rattle.tables.specs.declared.KindClass.{KindClass}
 use Rattle.tables.specs.declared.KindClass.the-variants.{Numeric, Counted, Lasting, Clock, Bits, Real, Gap, Fixed, Lz, Lau, Raw, Unknown}
 use Rattle.tables.specs.declared.TableRule.{TableRule}
@@ -17,10 +16,10 @@ use Rattle.tables.specs.declared.TableRule.the-variants.{A, B, C, D, E, 
 use Rattle.tables.specs.declared.Found.{Found}
 use Rattle.tables.specs.declared.Found.the-variants.{At, Nothing}
 use Rattle.tables.specs.declared.Checked.{Checked}
-use Rattle.tables.specs.declared.Checked.the-variants.{Accepted, Refused}
+use Rattle.tables.specs.declared.Checked.the-variants.{Accepted}
 use Rattle.tables.specs.Table.{Table}
-use Rattle.tables.specs.Rules.{classOf, known, lastOnly, widthFits, wholeBytes, within, inSet, inSets, declaredBits, endBefore, counts, scaled, counterFieldFits}
-use Rattle.tables.specs.Check.{keeps, reach, foundFrom, settle, first, checkOf, sizesFit, lengthFits}
+use Rattle.tables.specs.Rules.{classOf, known, lastOnly, widthFits, wholeBytes, within, inSets, declaredBits, endBefore, counts, scaled}
+use Rattle.tables.specs.Check.{keeps, reach, foundFrom, settle, checkOf}
 
 -- ---- every rule, at every index
 

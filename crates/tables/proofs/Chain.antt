@@ -1,16 +1,15 @@
 -- The rules one after the other: where each is kept nothing is refused, and rule a comes first. Assumes nothing.
-use mathlib.Core.Path.{_≡_, refl, sym, ap, _∙_}
-use mathlib.Core.Bool.{Bool, true, false}
+use mathlib.Core.Path.{_≡_, ap}
+use mathlib.Core.Bool.{true, false}
 use mathlib.Core.List.{List}
-use Prim.Native.Nat.{ℕ, _+_, _-_, _≤_, _<_}
-use native.Mathlib.Nat.{le-of-lt, le-suc, le-trans}
+use Prim.Native.Nat.{ℕ, _-_, _≤_, _<_}
+use native.Mathlib.Nat.{le-of-lt}
 use native.Mathlib.Omega.{arith}
 use lib.Dec.{lit≤}
 use Rattle.tables.specs.declared.TableRule.{TableRule}
 use Rattle.tables.specs.declared.TableRule.the-variants.{A, B, C, D, E, F, G, H}
 use Rattle.tables.specs.declared.Found.{Found}
-use Rattle.tables.specs.declared.Found.the-variants.{At, Nothing}
-use Rattle.tables.specs.declared.Checked.{Checked}
+use Rattle.tables.specs.declared.Found.the-variants.{Nothing}
 use Rattle.tables.specs.declared.Checked.the-variants.{Accepted, Refused}
 use Rattle.tables.specs.Table.{Table, tableOf}
 use Rattle.tables.specs.Check.{keeps, reach, foundFrom, settle, fromB, checkOf, sizesFit, KeptField, KeptSet}

@@ -1,13 +1,12 @@
 -- A table's numbers are 16 bits wide, and a word that is missing is 0. Assumes nothing.
-use mathlib.Core.Path.{_≡_, refl, sym, ap, _∙_, subst}
+use mathlib.Core.Path.{_≡_}
 use mathlib.Core.List.{List}
-use Prim.Native.Nat.{ℕ, _+_, _/_, _%_, _^_, _≤_, _<_}
+use Prim.Native.Nat.{ℕ, _/_, _^_, _≤_, _<_}
 use native.Mathlib.Nat.{mod-lt}
-use native.Mathlib.Omega.{arith}
 use lib.Dec.{lit<}
 use lib.ListN.{length, getD, List·getD-eq-default}
 use Rattle.tables.specs.declared.RepeatingFieldSet.{RepeatingFieldSet}
-use Rattle.tables.specs.Table.{tableOf, setOf, part}
+use Rattle.tables.specs.Table.{tableOf, part}
 
 pub missing : (l : List ℕ) (i : ℕ) → length l ≤ i → getD l i 0 ≡ 0
 missing l i h = List·getD-eq-default l 0 h

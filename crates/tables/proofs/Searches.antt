@@ -1,5 +1,5 @@
 -- What the loops over fields and sets come to. Assumes nothing.
-use mathlib.Core.Path.{_≡_, refl, sym, ap, ap₂, _∙_}
+use mathlib.Core.Path.{_≡_, refl, sym, ap, _∙_}
 use mathlib.Core.Bool.{Bool, true, false, _||_}
 use Prim.Native.Nat.{ℕ, zero, suc, _+_, _-_, _≤_, _<_}
 use native.Mathlib.Omega.{arith}
@@ -8,7 +8,6 @@ use mathlib.Core.Logic.{_⊎_, ⊎-elim}
 use Rattle.bits.specs.Bits.{pick}
 use Rattle.bits.proofs.Written.{below}
 use Rattle.tables.specs.declared.TableRule.{TableRule}
-use Rattle.tables.specs.declared.Found.{Found}
 use Rattle.tables.specs.declared.Found.the-variants.{At, Nothing}
 use Rattle.tables.specs.Table.{Table}
 use Rattle.tables.specs.Rules.{inSet, inSets, declaredBits}

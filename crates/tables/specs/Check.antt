@@ -1,10 +1,9 @@
 -- The table check: document 01, "Table rules, checked a to h, lowest index first".
 use mathlib.Core.Path.{_≡_}
 use Prim.Native.Nat.{ℕ, zero, suc}
-use mathlib.Core.Bool.{Bool, true, false, not, _&&_, _||_}
+use mathlib.Core.Bool.{Bool, true, _&&_, _||_}
 use lib.Dec.{leb, eqb}
 use Rattle.bits.specs.Bits.{pick}
-use Rattle.descriptor.specs.declared.FieldDescriptor.{FieldDescriptor}
 use Rattle.tables.specs.declared.TableRule.{TableRule}
 use Rattle.tables.specs.declared.TableRule.the-variants.{A, B, C, D, E, F, G, H}
 use Rattle.tables.specs.declared.Found.{Found}

@@ -1,5 +1,5 @@
 -- The table rules b to h, of one field or one set each: document 01, "Table rules".
-use Prim.Native.Nat.{ℕ, _+_, _-_, _*_, _%_, _^_, zero, suc}
+use Prim.Native.Nat.{ℕ, _+_, _-_, _%_, zero, suc}
 use mathlib.Core.Bool.{Bool, true, false, not, _&&_, _||_}
 use lib.Dec.{leb, ltb, eqb}
 use lib.IntN.{pos, negsuc}

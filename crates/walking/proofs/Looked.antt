@@ -17,7 +17,7 @@ use Rattle.walking.specs.declared.Spot.the-variants.{Field, Within}
 use Rattle.walking.specs.declared.Look.{Look}
 use Rattle.walking.specs.declared.Look.the-variants.{End, Pass, Enter, Meet}
 use Rattle.walking.specs.Walk.{One, placeOf}
-use Rattle.walking.specs.Turns.{Turn, moved, ended, broke, either, seen, turn, turnBy, turnWithin}
+use Rattle.walking.specs.Turns.{Turn, moved, ended, either, seen, turn, turnBy, turnWithin}
 use Rattle.walking.specs.Looks.{lookBy, lookWithin, lookOf, turnAt}
 
 -- ## What is to be done, by the tests

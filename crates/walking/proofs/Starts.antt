@@ -1,13 +1,12 @@
 -- What the search for a set that starts at a field comes to. Assumes nothing.
-use mathlib.Core.Path.{_≡_, refl, sym, ap, _∙_}
+use mathlib.Core.Path.{_≡_, ap, _∙_}
 use mathlib.Core.Bool.{Bool, true, false}
-use Prim.Native.Nat.{ℕ, zero, suc, _+_, _-_, _≤_, _<_}
+use Prim.Native.Nat.{ℕ, suc, _+_, _-_, _≤_, _<_}
 use native.Mathlib.Omega.{arith}
 use lib.Dec.{eqb}
 use Rattle.bits.specs.Bits.{pick}
 use Rattle.tables.specs.Table.{Table}
 use Rattle.tables.specs.Rules.{inSets}
-use Rattle.walking.specs.declared.Place.{Place}
 use Rattle.walking.specs.declared.Place.the-variants.{Starts, Inside, Plain}
 use Rattle.walking.specs.Walk.{placeFrom}
 

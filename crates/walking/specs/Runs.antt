@@ -1,7 +1,7 @@
 -- What walks, over any kind of visit, of state and of fault: document 01, "Reading a payload" and "Writing a payload", both go by these.
 use Prim.Native.Nat.{ℕ, zero, suc}
 use mathlib.Core.Bool.{Bool, true, false}
-use mathlib.Core.List.{List, [], _∷_, _++_}
+use mathlib.Core.List.{List, [], _++_}
 
 -- what was met, and the state after it or the fault that ended it
 pub data Run (W S F : Type 0) : Type 0 where

@@ -1,6 +1,6 @@
 -- The walk by single turns, from spot to spot: for callers that go through a payload field by field. It is no part of document 01: that
 -- it comes to the walk of specs/Walk.antt is `turn-law` of proofs/Machine.antt.
-use Prim.Native.Nat.{ℕ, suc, _+_}
+use Prim.Native.Nat.{ℕ, _+_}
 use mathlib.Core.Bool.{Bool, true, false}
 use lib.Dec.{eqb, leb, ltb}
 use Rattle.tables.specs.Table.{Table}

@@ -1,7 +1,7 @@
 -- The walk through a table, whatever is done at a field: document 01, "Reading a payload" and "Writing a payload".
 use Prim.Native.Nat.{ℕ, zero, suc, _+_}
 use mathlib.Core.Bool.{Bool, true, false}
-use mathlib.Core.List.{List, [], _∷_}
+use mathlib.Core.List.{[], _∷_}
 use lib.Dec.{eqb, leb}
 use Rattle.bits.specs.Bits.{pick}
 use Rattle.tables.specs.Table.{Table}

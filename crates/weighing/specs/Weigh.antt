@@ -21,7 +21,6 @@ use Rattle.fields.specs.declared.Shape.{Shape}
 use Rattle.fields.specs.declared.Shape.the-variants as shape
 use Rattle.fields.specs.Shapes.{shapeOf}
 use Rattle.tables.specs.Check.{payloadMax}
-use Rattle.weighing.specs.declared.EncodeRefusal.{EncodeRefusal}
 use Rattle.weighing.specs.declared.EncodeRefusal.the-variants.{BitWriteError, WrongLength, OutOfRange, WrongKind, TextTooLong}
 use Rattle.weighing.specs.declared.Lead.{Lead}
 use Rattle.weighing.specs.declared.Lead.the-variants.{Bare, Counted, Encoded, Empty}

@@ -9,7 +9,7 @@ use lib.ListN.{length, getD, take, drop, replicate, length-append, List·getD-ap
 use lib.Seq.{getD-append-seam}
 use borrow.Author.Tests.{ne-eqb}
 use Rattle.bits.specs.Bits.{pick}
-use Rattle.walking.proofs.Visits.{All, all-append}
+use Rattle.walking.proofs.Visits.{all-append}
 use Rattle.fields.specs.Payload.{Payload}
 use Rattle.writing.specs.ReadBack.{bytesAt, AllBytes}
 

@@ -1,6 +1,6 @@
 -- Read-back for the calls, by their contracts as the source states them, `Post`: what `encode` accepted, `for_each_field` reads to the end where encode
 -- ended, with as many readings as were written. Assumes nothing.
-use mathlib.Core.Path.{_≡_, sym, ap, ap₂, _∙_, subst}
+use mathlib.Core.Path.{_≡_, sym, ap, ap₂, _∙_}
 use mathlib.Core.List.{List}
 use Prim.Native.Nat.{ℕ, _≤_}
 use native.Mathlib.Omega.{arith}

@@ -1,5 +1,5 @@
 -- What is written at a field, by its shape and the offer; and that it lies in the buffer. Assumes nothing.
-use mathlib.Core.Path.{_≡_, refl, sym, ap, _∙_}
+use mathlib.Core.Path.{_≡_, refl}
 use mathlib.Core.Bool.{Bool, true, false}
 use mathlib.Core.List.{List}
 use Prim.Native.Nat.{ℕ}
@@ -14,7 +14,7 @@ use Rattle.offers.specs.declared.Offer.{Offer}
 use Rattle.offers.specs.declared.Offer.the-variants.{Nothing, NoKind, Value}
 use Rattle.weighing.specs.declared.Weighed.{Weighed}
 use Rattle.weighing.specs.declared.Weighed.the-variants as weighed
-use Rattle.weighing.specs.Weigh.{atField, gapOf, weighedOf}
+use Rattle.weighing.specs.Weigh.{atField, gapOf}
 use Rattle.writing.specs.Ink.{inked, Puttable}
 use Rattle.writing.specs.Encode.{offeredOf, contentOf}
 use Rattle.writing.specs.Strokes.{Reaches}

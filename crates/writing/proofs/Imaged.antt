@@ -1,15 +1,13 @@
 -- The image of an encode, its first bytes used and the table's filling, holds each field that was written. Assumes nothing.
 use mathlib.Core.Path.{_≡_, refl, sym, ap, _∙_}
-use mathlib.Core.Bool.{Bool, true, false}
 use mathlib.Core.List.{List, [], _∷_, _++_}
 use Prim.Native.Nat.{ℕ, _+_, _*_, _/_, _%_, _≤_, _<_}
 use native.Mathlib.Omega.{arith}
 use lib.ListN.{length, take, replicate, length-append, length-take, length-replicate, List·getD-append}
 use lib.Seq.{getD-take}
 use borrow.Author.Tests.{le-ltb}
-use Rattle.bits.specs.Bits.{pick, bit, bitAt, bitsAt}
+use Rattle.bits.specs.Bits.{bit, bitAt, bitsAt}
 use Rattle.bits.proofs.Laws.{run-local}
-use Rattle.descriptor.specs.declared.FieldDescriptor.{FieldDescriptor}
 use Rattle.tables.specs.Table.{Table}
 use Rattle.tables.specs.Check.{checkOf}
 use Rattle.tables.specs.declared.Checked.the-variants.{Accepted}
@@ -19,7 +17,6 @@ use Rattle.walking.specs.Walk.{hit, walkFrom}
 use Rattle.walking.proofs.Visits.{All}
 use Rattle.walking.proofs.Lawful.{Lawful, lawful-fields, lawful-ran, lawful-stopped}
 use Rattle.fields.specs.Payload.{Payload, payloadOf}
-use Rattle.fields.specs.Shapes.{shapeOf, isGap}
 use Rattle.reading.specs.Filling.{workingOf}
 use Rattle.reading.proofs.Local.{Agree}
 use Rattle.reading.proofs.Received.{working-fills}
@@ -27,12 +24,10 @@ use Rattle.reading.proofs.Working.{working-le}
 use Rattle.weighing.specs.declared.EncodeRefusal.{EncodeRefusal}
 use Rattle.weighing.specs.declared.Weighed.{Weighed}
 use Rattle.weighing.specs.declared.Weighed.the-variants.{Number, Gap, Text, Refused}
-use Rattle.weighing.specs.Weigh.{gapOf}
 use Rattle.offers.specs.declared.Offer.{Offer}
-use Rattle.offers.specs.declared.Offer.the-variants.{Nothing, NoKind, Value}
 use Rattle.writing.specs.declared.Pen.{Pen}
 use Rattle.writing.specs.Ink.{Puttable}
-use Rattle.writing.specs.Encode.{Mark, markAt, penAfter, offeredOf, contentOf, settled, oneOf, countOf, tooMany, beginning, writesOf, bytesUsed, imageOf}
+use Rattle.writing.specs.Encode.{Mark, markAt, penAfter, contentOf, settled, oneOf, countOf, tooMany, beginning, writesOf, bytesUsed, imageOf}
 use Rattle.writing.proofs.Contents.{content-puts}
 use Rattle.writing.proofs.Holding.{Inks, Holds}
 use Rattle.writing.proofs.Painted.{inks-local, past, Chained, chained-append, chained-le, chained-inside, length-painted, painted-inks}

@@ -1,5 +1,5 @@
 -- The values of records stand at the places below their count, and at no other. Assumes nothing.
-use mathlib.Core.Path.{_≡_, sym, ap, _∙_, subst}
+use mathlib.Core.Path.{sym, subst}
 use mathlib.Core.Bool.{Bool, true, false}
 use mathlib.Core.List.{List, [], _∷_}
 use Prim.Native.Nat.{ℕ, zero, suc, _+_, _*_, _/_, _^_, _≤_, _<_}
@@ -10,14 +10,13 @@ use lib.ListN.{length, getD}
 use lib.Signed.{mag}
 use borrow.Author.Tests.{lt-ltb, le-ltb}
 use Rattle.bits.specs.Bits.{pick}
-use Rattle.descriptor.specs.declared.PgnBytes.{PgnBytes}
 use Rattle.descriptor.specs.declared.PgnValue.{PgnValue}
 use Rattle.descriptor.specs.declared.PgnValue.the-variants.{U64, U32, U16, U8, I64, I32, I16, I8, F64, F32, Bytes}
 use Rattle.numbers.specs.Signs.{signedOf}
 use Rattle.walking.proofs.Visits.{All}
 use Rattle.offers.specs.declared.Offer.{Offer}
 use Rattle.offers.specs.declared.Offer.the-variants.{Nothing, NoKind, Value}
-use Rattle.offers.specs.Records.{within, numbersOf, offerOf, wordAt, textAt, recordBytes, recordAt, countOf, offeredAt, valuesIn}
+use Rattle.offers.specs.Records.{within, numbersOf, offerOf, wordAt, textAt, recordBytes, recordAt, countOf, valuesIn}
 use Rattle.writing.proofs.Loops.{Listed}
 
 -- what holds of what is of no kind, of every number but an f32, of the f32 of a pattern, and of the text that a record is, holds of a record

@@ -6,19 +6,17 @@ use Prim.Native.Nat.{ℕ, _≤_, _<_}
 use native.Mathlib.Omega.{arith}
 use lib.Dec.{ltb}
 use lib.ListN.{length, replicate, length-replicate}
-use borrow.Author.Tests.{lt-ltb, le-ltb, ltb-true, ltb-false}
+use borrow.Author.Tests.{ltb-true, ltb-false}
 use Rattle.bits.specs.Calls.{bytes}
-use Rattle.bits.specs.declared.BitPos.{BitPos}
 use Rattle.tables.specs.Table.{Table}
 use Rattle.tables.specs.Check.{checkOf}
 use Rattle.tables.specs.declared.Checked.the-variants.{Accepted}
 use Rattle.walking.specs.declared.Element.{Element}
-use Rattle.walking.specs.declared.Spot.{Spot}
-use Rattle.walking.specs.Runs.{Run, ran, stopped}
-use Rattle.walking.specs.Walk.{One, hit, miss}
+use Rattle.walking.specs.Runs.{Run, ran}
+use Rattle.walking.specs.Walk.{One, hit}
 use Rattle.walking.specs.Turns.{Turn, moved, met, ended, broke, turn}
 use Rattle.walking.proofs.Looked.{turn-like}
-use Rattle.walking.proofs.Machine.{Bounded, weight, Falls, moved-falls, met-falls, falls, Stands, stands-begin, stands-moved, stands-met, stands-ended, stands-broke, Meets, meets, met-law, moved-law, ended-law}
+use Rattle.walking.proofs.Machine.{Bounded, weight, Falls, moved-falls, met-falls, falls, Stands, stands-begin, stands-moved, stands-met, stands-ended, stands-broke, Meets, meets, met-law, ended-law}
 use Rattle.reading.proofs.Looped.{small}
 use Rattle.offers.specs.Values.{Values}
 use Rattle.offers.specs.declared.Offer.{Offer}
@@ -37,7 +35,7 @@ use Rattle.writing.specs.declared.Stroked.{Stroked}
 use Rattle.reading.specs.declared.Span.{Span}
 use Rattle.writing.specs.Ink.{inked}
 use Rattle.writing.specs.Encode.{Mark, settled, contentOf, oneOf, countOf, tooMany, beginning, writesOf, bytesUsed, endOf, marksOf, painted, imageOf}
-use Rattle.writing.specs.Strokes.{strokeBy, spanOf, endBy, shown, leftBy, turnOf, strokedOf, leftOf, startOf}
+use Rattle.writing.specs.Strokes.{strokeBy, spanOf, shown, leftBy, turnOf, strokedOf, leftOf, startOf}
 use Rattle.writing.proofs.Holding.{Kept}
 use Rattle.writing.proofs.Painted.{length-painted}
 

@@ -1,8 +1,8 @@
 -- What no field puts stays ones: "all bits after are ones", "Skipped fields stay ones", and of a refused encode "all 0xFF except the fields wholly written before; the
 -- faulty field leaves no bit". Assumes nothing.
-use mathlib.Core.Path.{_≡_, refl, sym, ap, _∙_, subst}
+use mathlib.Core.Path.{_≡_, refl, ap, _∙_}
 use mathlib.Core.List.{List, [], _∷_, _++_}
-use Prim.Native.Nat.{ℕ, zero, suc, _+_, _-_, _*_, _/_, _%_, _^_, _≤_, _<_}
+use Prim.Native.Nat.{ℕ, zero, suc, _+_, _-_, _*_, _/_, _%_, _≤_, _<_}
 use native.Mathlib.Nat.{mod-lt}
 use native.Mathlib.Omega.{arith}
 use lib.Dec.{lit<}
@@ -11,10 +11,9 @@ use Rattle.bits.specs.Bits.{bit, bitAt, written}
 use Rattle.bits.specs.declared.BitPos.{BitPos}
 use Rattle.bits.proofs.Written.{bit-written, put-after}
 use Rattle.bits.proofs.Laws.{length-written}
-use Rattle.descriptor.specs.declared.PgnBytes.{PgnBytes}
 use Rattle.tables.specs.Table.{Table}
 use Rattle.walking.specs.Runs.{ran, stopped}
-use Rattle.walking.proofs.Visits.{All, all-append}
+use Rattle.walking.proofs.Visits.{All}
 use Rattle.offers.specs.declared.Offer.{Offer}
 use Rattle.weighing.specs.declared.EncodeRefusal.{EncodeRefusal}
 use Rattle.weighing.specs.declared.Lead.{Lead}
@@ -22,7 +21,7 @@ use Rattle.weighing.specs.declared.Lead.the-variants.{Bare, Counted, Encoded, E
 use Rattle.weighing.specs.declared.Weighed.{Weighed}
 use Rattle.weighing.specs.declared.Weighed.the-variants.{Number, Gap, Text, Refused}
 use Rattle.writing.specs.declared.Pen.{Pen}
-use Rattle.writing.specs.Ink.{textIn, bytesBy, around, poured, inked, Whole, Puttable}
+use Rattle.writing.specs.Ink.{textIn, bytesBy, poured, inked, Whole, Puttable}
 use Rattle.writing.specs.Encode.{Mark, writesOf, painted, imageOf}
 use Rattle.writing.specs.Strokes.{sizeOf}
 use Rattle.writing.proofs.Pours.{text-long}

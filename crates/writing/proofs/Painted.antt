@@ -14,7 +14,7 @@ use Rattle.weighing.specs.declared.Lead.{Lead}
 use Rattle.weighing.specs.declared.Lead.the-variants.{Bare, Counted, Encoded, Empty}
 use Rattle.weighing.specs.declared.Weighed.{Weighed}
 use Rattle.weighing.specs.declared.Weighed.the-variants.{Number, Gap, Text, Refused}
-use Rattle.writing.specs.Ink.{textIn, bytesBy, around, poured, inked, Whole, Puttable}
+use Rattle.writing.specs.Ink.{textIn, bytesBy, poured, inked, Whole, Puttable}
 use Rattle.writing.specs.Encode.{Mark, painted}
 use Rattle.writing.specs.Strokes.{sizeOf}
 use Rattle.writing.proofs.Pours.{length-poured, text-long}

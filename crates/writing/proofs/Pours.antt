@@ -1,14 +1,14 @@
 -- Bytes put one after another. Assumes nothing.
 use mathlib.Core.Path.{_≡_, refl, sym, ap, _∙_}
 use mathlib.Core.List.{List, [], _∷_, _++_}
-use Prim.Native.Nat.{ℕ, zero, suc, _+_, _-_, _*_, _/_, _≤_, _<_}
+use Prim.Native.Nat.{ℕ, suc, _+_, _-_, _*_, _/_, _≤_, _<_}
 use native.Mathlib.Omega.{arith}
 use lib.ListN.{length, take, drop, getD, replicate, length-take, length-drop, length-replicate, replicate-append-replicate}
 use lib.Seq.{take-suc, getD-drop}
 use Rattle.bits.specs.Bits.{written}
 use Rattle.bits.specs.Calls.{cursorAt, writtenIn, writtenOf}
 use Rattle.bits.specs.declared.Room.{Room}
-use Rattle.bits.proofs.Rooms.{Fitting, room-fits}
+use Rattle.bits.proofs.Rooms.{room-fits}
 use Rattle.bits.proofs.Laws.{length-written}
 use Rattle.writing.specs.Ink.{poured}
 

@@ -1,5 +1,5 @@
 -- What was weighed has room. Assumes nothing.
-use mathlib.Core.Path.{_≡_, refl, sym, ap, _∙_, subst}
+use mathlib.Core.Path.{_≡_, refl, sym, ap}
 use mathlib.Core.Bool.{Bool, true, false, not, _||_}
 use mathlib.Core.List.{List}
 use Prim.Native.Nat.{ℕ, _+_, _-_, _*_, _/_, _%_, _≤_, _<_}
@@ -12,7 +12,7 @@ use Rattle.bits.specs.Calls.{bits, saturated, cursorAt, roomOf, writtenIn, writ
 use Rattle.bits.specs.declared.BitRefusal.the-variants.{NonAlignedBit, OutOfBits}
 use Rattle.bits.specs.declared.Room.{Room}
 use Rattle.bits.specs.declared.Room.the-variants as room
-use Rattle.bits.proofs.Rooms.{Fitting, fitting, room-fits}
+use Rattle.bits.proofs.Rooms.{fitting, room-fits}
 use Rattle.descriptor.specs.declared.Encoding.{Encoding}
 use Rattle.descriptor.specs.declared.Encoding.the-variants as encoding
 use Rattle.descriptor.specs.declared.FieldDescriptor.{FieldDescriptor}
@@ -30,7 +30,7 @@ use Rattle.weighing.specs.declared.Lead.the-variants.{Bare, Counted, Encoded, E
 use Rattle.weighing.specs.declared.Weighed.{Weighed}
 use Rattle.weighing.specs.declared.Weighed.the-variants.{Number, Gap, Text, Refused}
 use Rattle.weighing.specs.declared.EncodeRefusal.the-variants.{BitWriteError, TextTooLong}
-use Rattle.weighing.specs.Weigh.{ifRoom, ifAligned, atField, numberBy, gapOf, textBy, unencoded, fixedOf, wholeOf, lzOf, lauBy, byBytes, weighedBy, weighedOf}
+use Rattle.weighing.specs.Weigh.{ifRoom, ifAligned, atField, numberBy, gapOf, textBy, unencoded, lauBy, byBytes, weighedBy, weighedOf}
 use Rattle.writing.specs.Ink.{Whole, Puttable}
 
 -- a number that lies in the buffer is written

@@ -21,7 +21,6 @@ use Rattle.weighing.specs.declared.Weighed.the-variants as weighed
 use Rattle.writing.specs.declared.Pen.{Pen}
 use Rattle.writing.specs.declared.Draft.{Draft}
 use Rattle.writing.specs.declared.Stroke.the-variants.{Moved, Refused}
-use Rattle.writing.specs.declared.Stroked.{Stroked}
 use Rattle.writing.specs.Ink.{inked}
 use Rattle.writing.specs.Encode.{Mark, markAt, penAfter, settled, oneOf, countOf, tooMany}
 use Rattle.writing.specs.Strokes.{strokedTo, strokeBy, spotBy, spanOf, shown, leftBy, turnOf, strokedOf, leftOf}

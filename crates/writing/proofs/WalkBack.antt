@@ -8,10 +8,7 @@ use native.Mathlib.Omega.{arith}
 use lib.ListN.{length}
 use borrow.Author.Tests.{lt-ltb}
 use Rattle.bits.specs.Calls.{bits}
-use Rattle.descriptor.specs.declared.Encoding.the-variants as encoding
-use Rattle.descriptor.specs.declared.PgnBytes.{PgnBytes}
 use Rattle.descriptor.specs.declared.PgnValue.{PgnValue}
-use Rattle.descriptor.specs.declared.PgnValue.the-variants.{Bytes}
 use Rattle.numbers.specs.Conversions.{rawOf}
 use Rattle.numbers.specs.declared.RawOf.the-variants as rawed
 use Rattle.numbers.specs.Held.{Held}

@@ -7,7 +7,6 @@ use lib.Dec.{ltb}
 use lib.ListN.{length, replicate, getD}
 use Rattle.bits.specs.Bits.{pick}
 use Rattle.bits.specs.Calls.{bits, bytes, saturated}
-use Rattle.bits.specs.declared.BitPos.{BitPos}
 use Rattle.descriptor.specs.declared.FieldDescriptor.{FieldDescriptor}
 use Rattle.numbers.specs.Scaling.{bitsOf}
 use Rattle.numbers.specs.Special.{elementsOf}

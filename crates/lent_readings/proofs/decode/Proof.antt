@@ -1,6 +1,5 @@
 -- `lent_readings::decode` meets its contract: it is the walk of `Walked`, at a run of readings. Assumes nothing.
 use mathlib.Core.Path.{refl}
-use mathlib.Core.List.{List}
 use contract.Running.{givenOf, tables, tablesOf}
 use denote.Triple.Spec.{tripleOf}
 use denote.Triple.Table.{entered, cited}

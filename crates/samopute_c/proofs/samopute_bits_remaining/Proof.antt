@@ -1,7 +1,6 @@
 -- `samopute_c::samopute_bits_remaining` meets its contract: what `bits_remaining` answers, as a number. Assumes nothing.
 use borrow.Author.Needs.{needs}
 use mathlib.Core.Path.{ap}
-use Prim.Native.Nat.{ℕ}
 use Rattle.bits.specs.declared.BitPos.{BitPos}
 use Rattle.samopute_c.proofs.samopute_bits_remaining.Statement.{statement}
 use Rattle.samopute_c.proofs.samopute_bits_remaining.Tie as tie

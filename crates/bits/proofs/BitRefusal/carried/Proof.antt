@@ -8,9 +8,6 @@ use Rattle.bits.specs.declared.BitRefusal.{BitRefusal}
 use Rattle.bits.specs.Refusals.{carriedOf}
 use Rattle.bits.proofs.BitRefusal.carried.Statement.{statement}
 use Rattle.bits.proofs.BitRefusal.carried.Tie as tie
-use Rattle.bits.proofs.BitRefusal.carried.Reads as reads
-use Rattle.bits.proofs.BitRefusal.carried.Lts as lts
-use Rattle.bits.proofs.refusals.of_two.Reads as of-two-reads
 
 enum-known-self : tie.Need-enum-known-self
 enum-known-self c = search needs

@@ -5,10 +5,6 @@ use Prim.Native.Nat.{ℕ, _-_}
 use Rattle.bits.specs.Calls.{bits}
 use Rattle.bits.proofs.Cursor.bits_remaining.Statement.{statement}
 use Rattle.bits.proofs.Cursor.bits_remaining.Tie as tie
-use Rattle.bits.proofs.Cursor.bits_remaining.Reads as reads
-use Rattle.bits.proofs.Cursor.bits_remaining.Lts as lts
-use Rattle.bits.proofs.limits.bits_of.Reads as bits-of-reads
-use Rattle.bits.proofs.limits.less.Reads as less-reads
 
 bits-of-requires : tie.Need-bits-of-requires
 bits-of-requires c κs = search needs

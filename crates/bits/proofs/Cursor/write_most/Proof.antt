@@ -1,7 +1,7 @@
 -- `bits::Cursor::write_most` meets its contract: by the case of `room_for`. Assumes nothing.
 use borrow.Author.Needs.{needs}
 use native.Mathlib.Omega.{arith}
-use mathlib.Core.Path.{_≡_, sym, ap, _∙_}
+use mathlib.Core.Path.{sym, ap, _∙_}
 use lib.ListN.{length}
 use denote.Ref.{now}
 use Rattle.bits.specs.declared.Room.{Room}

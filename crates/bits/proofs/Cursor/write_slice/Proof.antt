@@ -1,7 +1,7 @@
 -- `bits::Cursor::write_slice` meets its contract: by the case of `slice_room_for`. Assumes nothing.
 use borrow.Author.Needs.{needs}
 use native.Mathlib.Omega.{arith}
-use mathlib.Core.Path.{_≡_, sym, ap, _∙_}
+use mathlib.Core.Path.{sym, ap, _∙_}
 use Prim.Native.Nat.{_*_}
 use lib.ListN.{length}
 use denote.Ref.{now}

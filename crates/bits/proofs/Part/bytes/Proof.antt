@@ -1,6 +1,6 @@
 -- `bits::Part::bytes` meets its contract: cutting start and length to the buffer changes nothing. Assumes nothing.
 use borrow.Author.Needs.{needs}
-use mathlib.Core.Path.{_≡_, sym, ap, _∙_}
+use mathlib.Core.Path.{sym, ap, _∙_}
 use Prim.Native.Nat.{ℕ, min}
 use native.Mathlib.Nat.{add-sub-cancel-left}
 use lib.ListN.{take, drop, length-drop}

@@ -1,14 +1,11 @@
 -- `bits::refusals::of_two` meets its contract. Assumes nothing.
-use mathlib.Core.Path.{_≡_, refl, sym}
+use mathlib.Core.Path.{_≡_, refl}
 use mathlib.Core.List.{[], _∷_}
 use Prim.Native.Nat.{ℕ, zero, suc}
 use borrow.Author.Needs.{needs}
-use native.Mathlib.Omega.{arith}
 use lib.ListN.{getD}
 use Rattle.bits.proofs.refusals.of_two.Statement.{statement}
 use Rattle.bits.proofs.refusals.of_two.Tie as tie
-use Rattle.bits.proofs.refusals.of_two.Reads as reads
-use Rattle.bits.proofs.refusals.of_two.Lts as lts
 
 returns : tie.Need-returns
 returns c = search needs

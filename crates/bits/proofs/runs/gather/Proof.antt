@@ -8,11 +8,6 @@ use Rattle.bits.specs.Bits.{bitsAt}
 use Rattle.bits.proofs.Words.{taken}
 use Rattle.bits.proofs.runs.gather.Statement.{statement}
 use Rattle.bits.proofs.runs.gather.Tie as tie
-use Rattle.bits.proofs.runs.gather.Reads as reads
-use Rattle.bits.proofs.runs.gather.Lts as lts
-use Rattle.bits.proofs.limits.least.Reads as least-reads
-use Rattle.bits.proofs.runs.gather_slow.Reads as gather-slow-reads
-use Rattle.bits.proofs.runs.word.Reads as word-reads
 
 sub-least : tie.Need-sub-least
 sub-least c = search needs

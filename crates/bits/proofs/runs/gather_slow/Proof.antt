@@ -1,18 +1,14 @@
 -- `bits::gather_slow` meets its contract. The invariant: r is the first k bits, and k is at most n. Assumes nothing.
 use mathlib.Core.Path.{_≡_, refl, sym, ap, _∙_, subst}
-use Prim.Native.Nat.{ℕ, _+_, _*_, _/_, _%_, _-_, _^_, _≤_, _<_}
+use Prim.Native.Nat.{ℕ, _+_, _%_, _-_, _≤_, _<_}
 use borrow.Author.Needs.{needs}
 use native.Mathlib.Omega.{arith}
 use lib.Pow.{pow-pos}
 use denote.Ref.{now}
 use Rattle.bits.proofs.Turns.{one-shl, turn}
-use Rattle.bits.specs.Bits.{bitAt, bitsAt, sumBits}
+use Rattle.bits.specs.Bits.{bitsAt, sumBits}
 use Rattle.bits.proofs.runs.gather_slow.Statement.{statement}
 use Rattle.bits.proofs.runs.gather_slow.Tie as tie
-use Rattle.bits.proofs.runs.gather_slow.Reads as reads
-use Rattle.bits.proofs.runs.gather_slow.Lts as lts
-use Rattle.bits.proofs.limits.least.Reads as least-reads
-use Rattle.bits.proofs.runs.wide.Reads as wide-reads
 
 abbrev Inv-loop : tie.InvT-loop
 Inv-loop s at n r₀ k₀ r k = (k ≤ n) × (r ≡ bitsAt s at k)

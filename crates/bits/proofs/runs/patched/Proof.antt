@@ -1,5 +1,5 @@
 -- `bits::patched` meets its contract. Assumes nothing.
-use mathlib.Core.Path.{_≡_, sym, ap, _∙_, subst}
+use mathlib.Core.Path.{_≡_, sym, ap, subst}
 use Prim.Native.Nat.{ℕ, _+_, _-_, _*_, _%_, _≤_, _<_, _^_}
 use native.Mathlib.Nat.{lt-of-lt-of-le}
 use borrow.Author.Needs.{needs}
@@ -7,16 +7,11 @@ use native.Mathlib.Omega.{arith}
 use lib.Dec.{lit≤}
 use lib.Pow.{pow-pos, pow-mono}
 use lib.Bits.{bitAnd, bitOr}
-use mir.Syntax.{w8}
-use mir.Val.{Fits}
 use Rattle.bits.specs.Patch.{patch}
 use Rattle.bits.proofs.Turns.{one-shl}
 use Rattle.bits.proofs.Patches.{patch-lt, mask-code}
 use Rattle.bits.proofs.runs.patched.Statement.{statement}
 use Rattle.bits.proofs.runs.patched.Tie as tie
-use Rattle.bits.proofs.runs.patched.Reads as reads
-use Rattle.bits.proofs.runs.patched.Lts as lts
-use Rattle.bits.proofs.runs.wide.Reads as wide-reads
 
 wide-requires : tie.Need-wide-requires
 wide-requires c κs = search needs

@@ -1,19 +1,15 @@
 -- `bits::runs::scatter_slow` meets its contract. The invariant: the first k bits are written, and k is at most n. Assumes nothing.
-use mathlib.Core.Path.{_≡_, refl, sym, ap, _∙_, subst}
-use Prim.Native.Nat.{ℕ, _+_, _*_, _/_, _%_, _-_, _^_, _≤_, _<_}
+use mathlib.Core.Path.{_≡_, refl, ap, _∙_}
+use Prim.Native.Nat.{ℕ, _+_, _*_, _%_, _-_, _≤_, _<_}
 use borrow.Author.Needs.{needs}
 use native.Mathlib.Omega.{arith}
-use lib.ListN.{length, set, length-set}
+use lib.ListN.{length, length-set}
 use denote.Ref.{now}
 use Rattle.bits.specs.Bits.{written}
 use Rattle.bits.proofs.Patches.{stored}
 use Rattle.bits.proofs.Written.{none}
 use Rattle.bits.proofs.runs.scatter_slow.Statement.{statement}
 use Rattle.bits.proofs.runs.scatter_slow.Tie as tie
-use Rattle.bits.proofs.runs.scatter_slow.Reads as reads
-use Rattle.bits.proofs.runs.scatter_slow.Lts as lts
-use Rattle.bits.proofs.limits.least.Reads as least-reads
-use Rattle.bits.proofs.runs.patched.Reads as patched-reads
 
 abbrev Inv-loop : tie.InvT-loop
 Inv-loop s₀ at n v k₀ s k = (k ≤ n) × ((length s ≡ length s₀) × (s ≡ written s₀ at k v))

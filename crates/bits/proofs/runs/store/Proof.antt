@@ -1,6 +1,6 @@
 -- `bits::store` meets its contract. The invariant: the first i bytes are copied. Assumes nothing.
-use mathlib.Core.Path.{_≡_, refl, sym, ap, _∙_}
-use Prim.Native.Nat.{ℕ, _+_, _-_, _≤_, _<_}
+use mathlib.Core.Path.{_≡_, refl, ap, _∙_}
+use Prim.Native.Nat.{_+_, _-_, _≤_, _<_}
 use borrow.Author.Needs.{needs}
 use native.Mathlib.Omega.{arith}
 use native.Mathlib.Numerals.{add-one}
@@ -9,8 +9,6 @@ use lib.Seq.{paste, paste-zero, paste-suc}
 use denote.Ref.{now}
 use Rattle.bits.proofs.runs.store.Statement.{statement}
 use Rattle.bits.proofs.runs.store.Tie as tie
-use Rattle.bits.proofs.runs.store.Reads as reads
-use Rattle.bits.proofs.runs.store.Lts as lts
 
 abbrev Inv-loop : tie.InvT-loop
 Inv-loop s₀ a src i₀ s i = (i ≤ length src) × ((length s ≡ length s₀) × (s ≡ paste s₀ a src i))

@@ -4,9 +4,6 @@ use denote.Ref.{now}
 use Rattle.bits.proofs.Words.{word-code}
 use Rattle.bits.proofs.runs.word.Statement.{statement}
 use Rattle.bits.proofs.runs.word.Tie as tie
-use Rattle.bits.proofs.runs.word.Reads as reads
-use Rattle.bits.proofs.runs.word.Lts as lts
-use Rattle.bits.proofs.runs.wide.Reads as wide-reads
 
 shared-slice-read-wide : tie.Need-shared-slice-read-wide
 shared-slice-read-wide c = search needs

@@ -1,7 +1,7 @@
 -- `fields::read::gap` meets its contract: by what the call says. Assumes nothing.
-use mathlib.Core.Path.{_≡_, sym, ap, ap₂, _∙_, subst}
+use mathlib.Core.Path.{sym, ap, _∙_}
 use denote.Ref.{now}
-use Rattle.fields.specs.Payload.{Payload, payloadOf}
+use Rattle.fields.specs.Payload.{payloadOf}
 use Rattle.fields.specs.Taken.{roomAt}
 use Rattle.fields.proofs.Spelled.{gapSays, gap-says}
 use borrow.Author.Needs.{needs}

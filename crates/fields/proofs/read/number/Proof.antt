@@ -1,11 +1,10 @@
 -- `fields::read::number` meets its contract: by what the read says. Assumes nothing.
-use mathlib.Core.Path.{_≡_, sym, ap, ap₂, _∙_, subst}
+use mathlib.Core.Path.{sym, ap, _∙_}
 use mathlib.Core.Bool.{Bool}
 use denote.Ref.{now}
-use Rattle.fields.specs.Payload.{Payload, payloadOf}
+use Rattle.fields.specs.Payload.{payloadOf}
 use Rattle.fields.specs.Taken.{roomAt}
-use Rattle.bits.specs.Calls.{bits, readU64Of, cursorAt}
-use Rattle.bits.specs.declared.ReadU64.{ReadU64}
+use Rattle.bits.specs.Calls.{bits}
 use Rattle.bits.specs.declared.ReadU64.the-variants as read64
 use Rattle.descriptor.specs.declared.PgnValue.{PgnValue}
 use Rattle.fields.specs.declared.Raw.the-variants as raw

@@ -1,7 +1,7 @@
 -- `fields::read::read_field_raw_and_value` meets its contract: by the shape. Assumes nothing.
-use mathlib.Core.Path.{_≡_, sym, ap, ap₂, _∙_, subst}
+use mathlib.Core.Path.{_≡_, sym, ap, _∙_}
 use denote.Ref.{now}
-use Rattle.fields.specs.Payload.{Payload, payloadOf}
+use Rattle.fields.specs.Payload.{payloadOf}
 use Rattle.fields.specs.declared.Shape.{Shape}
 use Rattle.fields.specs.declared.FieldRead.{FieldRead}
 use Rattle.fields.specs.Taken.{takenBy}

@@ -1,11 +1,11 @@
 -- `fields::texts::fixed` meets its contract. Assumes nothing.
-use mathlib.Core.Path.{_≡_, sym, ap, ap₂, _∙_, subst}
-use Prim.Native.Nat.{ℕ, _+_, _-_, _*_, _/_, _≤_, _<_}
+use mathlib.Core.Path.{ap, _∙_}
+use Prim.Native.Nat.{ℕ, _-_, _*_, _/_}
 use native.Mathlib.Omega.{arith}
 use denote.Ref.{now}
 use Rattle.bits.specs.declared.Room.{Room}
 use Rattle.descriptor.specs.declared.Encoding.the-variants as encoding
-use Rattle.fields.specs.Payload.{Payload, payloadOf}
+use Rattle.fields.specs.Payload.{payloadOf}
 use Rattle.fields.specs.Content.{textRead}
 use Rattle.fields.specs.Taken.{bytesRoom, fixedBytes}
 use Rattle.fields.proofs.Spelled.{fixed-text, fixed-le}

@@ -1,12 +1,12 @@
 -- `fields::texts::lz` meets its contract: by the length byte. Assumes nothing.
-use mathlib.Core.Path.{_≡_, sym, ap, ap₂, _∙_, subst}
-use Prim.Native.Nat.{ℕ, _+_, _-_, _*_, _/_, _≤_, _<_}
+use mathlib.Core.Path.{sym, ap, _∙_}
+use Prim.Native.Nat.{_-_}
 use native.Mathlib.Omega.{arith}
 use denote.Ref.{now}
 use lib.ListN.{length}
 use Rattle.bits.specs.Calls.{cursorAt}
 use Rattle.bits.proofs.Rooms.{fitting}
-use Rattle.fields.specs.Payload.{Payload, payloadOf}
+use Rattle.fields.specs.Payload.{payloadOf}
 use Rattle.fields.specs.declared.Shape.the-variants as shape
 use Rattle.fields.specs.Taken.{roomAt, lzTaken}
 use Rattle.fields.proofs.Spelled.{got-fits, got-value, lengthSays, length-says}

@@ -1,13 +1,11 @@
 -- `fields::texts::lz_text` meets its contract. Assumes nothing.
-use mathlib.Core.Path.{_≡_, sym, ap, ap₂, _∙_, subst}
-use Prim.Native.Nat.{ℕ, _+_, _-_, _*_, _/_, _≤_, _<_}
-use native.Mathlib.Omega.{arith}
+use mathlib.Core.Path.{ap₂, _∙_}
+use Prim.Native.Nat.{ℕ, _+_, _-_, _/_}
 use denote.Ref.{now}
 use Rattle.bits.specs.declared.Room.{Room}
 use Rattle.descriptor.specs.declared.Encoding.the-variants as encoding
-use Rattle.fields.specs.Payload.{Payload, payloadOf}
+use Rattle.fields.specs.Payload.{payloadOf}
 use Rattle.fields.specs.Content.{textRead}
-use Rattle.fields.specs.Taken.{textRoom, closedAt}
 use Rattle.fields.proofs.Spelled.{too-long, lz-text}
 use borrow.Author.Needs.{needs}
 use Rattle.fields.proofs.texts.lz_text.Statement.{statement}

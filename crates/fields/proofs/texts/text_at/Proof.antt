@@ -1,11 +1,9 @@
 -- `fields::texts::text_at` meets its contract. Assumes nothing.
-use mathlib.Core.Path.{_≡_, sym, ap, _∙_}
+use mathlib.Core.Path.{sym, ap}
 use mathlib.Core.Bool.{Bool}
-use Prim.Native.Nat.{ℕ}
 use borrow.Author.Tests.{eq-eqb, ne-eqb}
 use Rattle.bits.specs.Bits.{pick}
 use Rattle.bits.specs.Calls.{bytes}
-use Rattle.descriptor.specs.declared.PgnValue.{PgnValue}
 use Rattle.descriptor.specs.declared.PgnValue.the-variants.{Bytes}
 use Rattle.fields.proofs.texts.text_at.Statement.{statement}
 use Rattle.fields.proofs.texts.text_at.Tie as tie

@@ -1,5 +1,5 @@
 -- `fields::texts::text_read` meets its contract: by the room. Assumes nothing.
-use mathlib.Core.Path.{_≡_, sym, ap, _∙_}
+use mathlib.Core.Path.{sym, ap, _∙_}
 use Rattle.bits.specs.Calls.{bits}
 use Rattle.bits.specs.declared.Room.{Room}
 use Rattle.descriptor.specs.declared.PgnValue.{PgnValue}

@@ -1,5 +1,5 @@
 -- `lent_readings::steps::on` meets its contract: field by field. Assumes nothing.
-use mathlib.Core.Bool.{true, false}
+use mathlib.Core.Bool.{false}
 use borrow.Author.Needs.{needs}
 use Rattle.lent_readings.proofs.steps.on.Statement.{statement}
 use Rattle.lent_readings.proofs.steps.on.Tie as tie

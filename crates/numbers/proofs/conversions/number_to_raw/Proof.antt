@@ -1,5 +1,5 @@
 -- `numbers::conversions::number_to_raw` meets its contract: by the kind's rule. Assumes nothing.
-use mathlib.Core.Path.{_≡_, sym, ap, ap₂, _∙_}
+use mathlib.Core.Path.{_≡_, sym, ap₂, _∙_}
 use Prim.Native.Nat.{ℕ}
 use Rattle.numbers.specs.declared.ScaleRule.{ScaleRule}
 use Rattle.numbers.specs.Conversions.{numberOf, rawOf}

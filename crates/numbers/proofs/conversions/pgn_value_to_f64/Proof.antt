@@ -1,5 +1,5 @@
 -- `numbers::conversions::pgn_value_to_f64` meets its contract: by the value's kind. Assumes nothing.
-use mathlib.Core.Path.{_≡_, refl, sym, ap, ap₂, _∙_}
+use mathlib.Core.Path.{sym, ap, _∙_}
 use lib.Dec.{lit≤}
 use mir.Syntax.{w8, w16, w32, w64}
 use mir.ValLaws.{toZ-ofZ}

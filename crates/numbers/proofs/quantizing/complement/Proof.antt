@@ -1,7 +1,7 @@
 -- `numbers::quantizing::complement` meets its contract: 2^n is one more than n ones. Assumes nothing.
 use mathlib.Core.Path.{_≡_, sym, ap, ap₂, _∙_}
-use mathlib.Core.Bool.{Bool, true}
-use Prim.Native.Nat.{ℕ, _-_, _*_, _%_, _^_, _≤_, _<_}
+use mathlib.Core.Bool.{Bool}
+use Prim.Native.Nat.{ℕ, _-_, _%_, _^_, _≤_, _<_}
 use native.Mathlib.Nat.{mod-eq-of-lt, mod-self, sub-zero}
 use native.Mathlib.Omega.{arith}
 use lib.Pow.{pow-pos}

@@ -1,10 +1,10 @@
 -- `numbers::quantizing::exactly` meets its contract: by the test. Assumes nothing.
-use mathlib.Core.Path.{_≡_, sym, ap, _∙_, subst}
-use Prim.Native.Nat.{ℕ, _+_, _-_, _*_, _%_, _^_, _≤_, _<_}
+use mathlib.Core.Path.{sym, ap, subst}
+use Prim.Native.Nat.{ℕ, _-_, _^_, _≤_, _<_}
 use native.Mathlib.Omega.{arith}
-use borrow.Author.Tests.{le-leb, lt-leb, lt-ltb, le-ltb}
+use borrow.Author.Tests.{le-leb, lt-leb}
 use Rattle.numbers.specs.declared.Quantized.the-variants.{Raw}
-use Rattle.numbers.specs.Quantizing.{limitOf, complementOf}
+use Rattle.numbers.specs.Quantizing.{limitOf}
 use Rattle.numbers.proofs.Limits.{limit-le}
 use borrow.Author.Needs.{needs}
 use Rattle.numbers.proofs.quantizing.exactly.Statement.{statement}

@@ -1,6 +1,6 @@
 -- `numbers::quantizing::is_finite` meets its contract: between the infinities. Assumes nothing.
 use mathlib.Core.Path.{_≡_, refl, sym, ap, _∙_}
-use mathlib.Core.Bool.{Bool, true, false}
+use mathlib.Core.Bool.{true, false}
 use lib.Dec.{lit≤}
 use lib.Ieee.{Float, inf, binary64, lt, neg, ofBits}
 use Rattle.rounding.proofs.Fields.{no-nan}

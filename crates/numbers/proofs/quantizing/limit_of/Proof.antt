@@ -1,6 +1,5 @@
 -- `numbers::quantizing::limit_of` meets its contract: by the two signs. Assumes nothing.
-use mathlib.Core.Path.{_≡_, sym, ap, ap₂, _∙_}
-use mathlib.Core.Bool.{Bool}
+use mathlib.Core.Path.{sym, ap, ap₂, _∙_}
 use Prim.Native.Nat.{ℕ, _-_, _*_, _%_, _^_}
 use native.Mathlib.Omega.{arith}
 use Rattle.bits.proofs.Turns.{one-shl}

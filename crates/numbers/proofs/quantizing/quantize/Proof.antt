@@ -2,7 +2,6 @@
 use mathlib.Core.Path.{_≡_, sym, ap, ap₂, _∙_}
 use Prim.Native.Nat.{ℕ, min}
 use lib.Ieee.{Float, binary64, div}
-use Rattle.rounding.specs.Truncation.{halfAwayOf}
 use Rattle.numbers.specs.Quantizing.{cutOf, roundedOf, quantizeOf}
 use Rattle.numbers.proofs.Limits.{rounded-finite, rounded-infinite}
 -- `numbers::quantizing::quantize` meets its contract Assumes nothing.

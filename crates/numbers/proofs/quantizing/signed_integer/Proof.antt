@@ -1,5 +1,5 @@
 -- `numbers::quantizing::signed_integer` meets its contract: by the sign and the magnitude. Assumes nothing.
-use mathlib.Core.Path.{_≡_, sym, ap, ap₂, _∙_}
+use mathlib.Core.Path.{ap, ap₂, _∙_}
 use mathlib.Core.Bool.{true}
 use lib.IntN.{ℤ, pos, natAbs}
 use lib.Signed.{ltZ}

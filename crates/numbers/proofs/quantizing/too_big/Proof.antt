@@ -1,7 +1,7 @@
 -- `numbers::quantizing::too_big` meets its contract: by whether it is 2^64. Assumes nothing.
 use mathlib.Core.Path.{_≡_, sym, ap, _∙_}
 use mathlib.Core.Bool.{Bool, true, false}
-use lib.Ieee.{Float, fin, binary64, fits, eq}
+use lib.Ieee.{fin, binary64, fits, eq}
 use lib.IntN.{pos}
 use denote.Floats.{passes}
 use Rattle.numbers.specs.Quantizing.{cutOf}

@@ -1,7 +1,7 @@
 -- `numbers::scale::clock` meets its contract: by the resolution. Assumes nothing.
-use mathlib.Core.Path.{_≡_, sym, ap, ap₂, _∙_}
+use mathlib.Core.Path.{sym, ap, _∙_}
 use Rattle.descriptor.specs.declared.Resolution.{Resolution}
-use Rattle.descriptor.specs.declared.PgnValue.the-variants.{F64, F32}
+use Rattle.descriptor.specs.declared.PgnValue.the-variants.{F64}
 use Rattle.numbers.specs.Scaling.{clockOf}
 use borrow.Author.Needs.{needs}
 use Rattle.numbers.proofs.scale.clock.Statement.{statement}

@@ -1,5 +1,5 @@
 -- `numbers::scale::counted` meets its contract: by the resolution. Assumes nothing.
-use mathlib.Core.Path.{_≡_, sym, ap, ap₂, _∙_}
+use mathlib.Core.Path.{sym, ap, _∙_}
 use Rattle.descriptor.specs.declared.Resolution.{Resolution}
 use Rattle.descriptor.specs.declared.PgnValue.the-variants.{F64, F32}
 use Rattle.rounding.specs.Narrowing.{narrowOf}

@@ -1,5 +1,5 @@
 -- `numbers::scale::plain` meets its contract: by the resolution and the sign. Assumes nothing.
-use mathlib.Core.Path.{_≡_, sym, ap, ap₂, _∙_}
+use mathlib.Core.Path.{sym, ap, ap₂, _∙_}
 use mathlib.Core.Bool.{Bool}
 use lib.Ieee.{Float, binary32, mul}
 use Rattle.descriptor.specs.declared.Resolution.{Resolution}

@@ -1,5 +1,5 @@
 -- `numbers::scale::product` meets its contract. Assumes nothing.
-use mathlib.Core.Path.{_≡_, sym, ap, ap₂, _∙_}
+use mathlib.Core.Path.{ap₂}
 use lib.Ieee.{Float, binary64, mul}
 use borrow.Author.Needs.{needs}
 use Rattle.numbers.proofs.scale.product.Statement.{statement}

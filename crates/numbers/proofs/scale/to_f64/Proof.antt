@@ -1,7 +1,6 @@
 -- `numbers::scale::to_f64` meets its contract: by the sign. Assumes nothing.
-use mathlib.Core.Path.{_≡_, sym, ap, _∙_}
+use mathlib.Core.Path.{sym, ap, _∙_}
 use mathlib.Core.Bool.{Bool}
-use lib.IntN.{ℤ}
 use lib.Ieee.{binary64, ofInt}
 use mir.Syntax.{w64}
 use mir.ValLaws.{toZ-ofZ}

@@ -1,5 +1,5 @@
 -- `numbers::scale::widen` meets its contract: the same number, or the one NaN. Assumes nothing.
-use mathlib.Core.Path.{_≡_, refl, sym, _∙_}
+use mathlib.Core.Path.{sym, _∙_}
 use mathlib.Core.Bool.{not}
 use lib.Ieee.{binary32, binary64, fits, isNan, ne}
 use lib.Ieee.Compare.{differs-from-itself}

@@ -1,8 +1,7 @@
 -- `numbers::signs::low_bits` meets its contract: a mask of n ones. Assumes nothing.
-use mathlib.Core.Path.{_≡_, sym, ap, _∙_, subst}
-use Prim.Native.Nat.{ℕ, _-_, _≤_, _<_, _^_}
+use mathlib.Core.Path.{sym, ap, _∙_, subst}
+use Prim.Native.Nat.{ℕ, _-_, _≤_}
 use native.Mathlib.Nat.{mod-eq-of-lt, lt-of-lt-of-le}
-use native.Mathlib.Omega.{arith}
 use borrow.Author.Needs.{needs}
 use lib.Bits.{bitAnd, and-mask}
 use lib.Pow.{pow-pos, pow-mono}

@@ -1,7 +1,7 @@
 -- `numbers::special::counter_elements` meets its contract: by the test, over the raw's low bits. Assumes nothing.
 use mathlib.Core.Path.{_≡_, sym, ap, _∙_}
 use borrow.Author.Tests.{eq-eqb, ne-eqb}
-use Prim.Native.Nat.{ℕ, _-_, _%_, _^_, min}
+use Prim.Native.Nat.{ℕ, _-_, min}
 use mathlib.Core.Bool.{Bool}
 use lib.Dec.{eqb}
 use Rattle.bits.specs.Bits.{pick}

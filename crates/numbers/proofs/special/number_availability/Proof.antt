@@ -1,5 +1,5 @@
 -- `numbers::special::number_availability` meets its contract: by the kind, over the raw's low bits. Assumes nothing.
-use mathlib.Core.Path.{_≡_, ap, _∙_}
+use mathlib.Core.Path.{ap, _∙_}
 use Prim.Native.Nat.{ℕ, _%_, _^_}
 use Rattle.numbers.specs.Scaling.{ruleOf}
 use Rattle.numbers.specs.Special.{byRule}

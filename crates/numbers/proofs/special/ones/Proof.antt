@@ -1,5 +1,5 @@
 -- `numbers::special::ones` meets its contract: the largest word, shifted down. Assumes nothing.
-use mathlib.Core.Path.{_≡_, sym, ap, _∙_}
+use mathlib.Core.Path.{sym, ap}
 use Prim.Native.Nat.{ℕ, _-_, _^_}
 use Rattle.bits.proofs.Words.{mask}
 use borrow.Author.Needs.{needs}

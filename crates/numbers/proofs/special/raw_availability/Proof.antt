@@ -1,5 +1,5 @@
 -- `numbers::special::raw_availability` meets its contract: by the tests. Assumes nothing.
-use mathlib.Core.Path.{_≡_, sym, ap, _∙_}
+use mathlib.Core.Path.{sym, _∙_}
 use borrow.Author.Tests.{le-leb, lt-leb, eq-eqb, ne-eqb}
 use borrow.Author.Needs.{needs}
 use Rattle.numbers.proofs.special.raw_availability.Statement.{statement}

@@ -1,5 +1,5 @@
 -- `numbers::special::top_of` meets its contract: by the sign. Assumes nothing.
-use mathlib.Core.Path.{_≡_, sym, ap, _∙_}
+use mathlib.Core.Path.{sym, ap, _∙_}
 use Prim.Native.Nat.{ℕ, _-_, _^_}
 use Rattle.numbers.specs.Special.{topOf}
 use borrow.Author.Needs.{needs}

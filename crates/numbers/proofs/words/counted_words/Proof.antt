@@ -1,5 +1,5 @@
 -- `numbers::words::counted_words` meets its contract: by the resolution. Assumes nothing.
-use mathlib.Core.Path.{_≡_, sym, ap, _∙_}
+use mathlib.Core.Path.{sym, ap, _∙_}
 use Rattle.descriptor.specs.declared.Resolution.{Resolution}
 use lib.Ieee.{Float}
 use Rattle.descriptor.specs.declared.PgnValue.the-variants.{F64, F32}

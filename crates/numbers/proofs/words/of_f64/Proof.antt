@@ -1,5 +1,5 @@
 -- `numbers::words::of_f64` meets its contract: by its call. Assumes nothing.
-use mathlib.Core.Path.{_≡_, ap}
+use mathlib.Core.Path.{ap}
 use Prim.Native.Nat.{ℕ}
 use borrow.Author.Needs.{needs}
 use Rattle.numbers.proofs.words.of_f64.Statement.{statement}

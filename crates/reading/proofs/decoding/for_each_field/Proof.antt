@@ -1,13 +1,12 @@
 -- `reading::decoding::for_each_field` meets its contract: what is walked is the working payload. Assumes nothing.
-use mathlib.Core.Path.{_≡_, sym, ap, ap₂, _∙_, subst}
+use mathlib.Core.Path.{sym, ap, _∙_}
 use Prim.Native.Nat.{ℕ}
 use mathlib.Core.List.{List}
-use lib.ListN.{length}
 use denote.Ref.{now}
-use Rattle.tables.specs.Table.{Table, tableOf}
+use Rattle.tables.specs.Table.{tableOf}
 use Rattle.reading.specs.declared.Prepared.{Prepared}
 use Rattle.fields.specs.Payload.{payloadOf}
-use Rattle.reading.specs.Filling.{pickedOf, workingOf, runAfter}
+use Rattle.reading.specs.Filling.{pickedOf, workingOf}
 use Rattle.reading.specs.Decode.{walkOf, endOf, decodedIn}
 use Rattle.reading.proofs.Working.{picked-working, ready-accepted}
 use borrow.Author.Needs.{needs}

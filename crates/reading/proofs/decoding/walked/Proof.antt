@@ -2,14 +2,14 @@
 use mathlib.Core.Path.{_≡_, sym, _∙_, subst}
 use mathlib.Core.Bool.{true}
 use denote.Ref.{now}
-use Rattle.tables.specs.Table.{Table, tableOf}
-use Rattle.fields.specs.Payload.{Payload, payloadOf}
+use Rattle.tables.specs.Table.{tableOf}
+use Rattle.fields.specs.Payload.{payloadOf}
 use borrow.Author.Needs.{needs}
 use Rattle.tables.specs.Check.{checkOf}
 use Rattle.tables.specs.declared.Checked.the-variants.{Accepted}
 use Rattle.reading.specs.declared.Next.{Next}
 use Rattle.reading.specs.declared.Walk.{Walk}
-use Rattle.reading.specs.Steps.{startOf, goesOn}
+use Rattle.reading.specs.Steps.{goesOn}
 use Rattle.reading.proofs.Looped.{Going, heft, going, Turned, turned, comes-to}
 use borrow.Author.Needs.{needs}
 use Rattle.reading.proofs.decoding.walked.Statement.{statement}

@@ -1,8 +1,8 @@
 -- `reading::groups::element_count` meets its contract. Assumes nothing.
-use mathlib.Core.Path.{_≡_, sym, ap, ap₂, _∙_, subst}
+use mathlib.Core.Path.{ap, ap₂, _∙_}
 use denote.Ref.{now}
-use Prim.Native.Nat.{ℕ, _+_, _-_, _*_, _/_, _≤_, _<_, min}
-use Rattle.tables.specs.Table.{Table, tableOf}
+use Prim.Native.Nat.{_-_, min}
+use Rattle.tables.specs.Table.{tableOf}
 use Rattle.tables.specs.declared.RepeatingFieldSet.{RepeatingFieldSet}
 use Rattle.descriptor.specs.declared.FieldDescriptor.{FieldDescriptor}
 use Rattle.numbers.specs.Special.{elementsOf}

@@ -1,11 +1,9 @@
 -- `reading::groups::fitting` meets its contract. Assumes nothing.
-use mathlib.Core.Path.{_≡_, sym, ap, ap₂, _∙_, subst}
-use denote.Ref.{now}
+use mathlib.Core.Path.{sym, ap, _∙_}
 use mathlib.Core.Bool.{Bool}
-use Prim.Native.Nat.{ℕ, _+_, _-_, _*_, _/_, _≤_, _<_, min}
-use Rattle.tables.specs.Table.{Table, tableOf}
+use Prim.Native.Nat.{ℕ, _-_, _/_}
 use Rattle.bits.specs.Bits.{pick}
-use borrow.Author.Tests.{eq-eqb, ne-eqb, le-leb, lt-leb}
+use borrow.Author.Tests.{eq-eqb, ne-eqb}
 use lib.Dec.{eqb}
 use borrow.Author.Needs.{needs}
 use Rattle.reading.proofs.groups.fitting.Statement.{statement}

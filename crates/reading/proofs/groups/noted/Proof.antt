@@ -1,15 +1,15 @@
 -- `reading::groups::noted` meets its contract: the counters of the first k sets are noted. Assumes nothing.
-use mathlib.Core.Path.{_≡_, sym, ap, ap₂, _∙_, subst}
+use mathlib.Core.Path.{_≡_, sym, ap, _∙_}
 use denote.Ref.{now}
-use Prim.Native.Nat.{ℕ, _+_, _-_, _*_, _/_, _≤_, _<_, min}
+use Prim.Native.Nat.{ℕ, _-_, _≤_, min}
 use native.Mathlib.Omega.{arith}
-use Rattle.tables.specs.Table.{Table, tableOf}
+use Rattle.tables.specs.Table.{tableOf}
 use Rattle.tables.specs.declared.RepeatingFieldSet.{RepeatingFieldSet}
 use mathlib.Core.List.{List}
 use lib.ListN.{length, set, length-set}
 use borrow.Author.Needs.{needs}
 use borrow.Author.Tests.{eq-eqb, ne-eqb}
-use Rattle.reading.specs.Groups.{notedTo, noted as notedOf}
+use Rattle.reading.specs.Groups.{notedTo}
 use Rattle.reading.proofs.Counted.{noted-here, noted-past, noted-none}
 use borrow.Author.Needs.{needs}
 use Rattle.reading.proofs.groups.noted.Statement.{statement}

@@ -1,7 +1,7 @@
 -- `reading::groups::noted_by` meets its contract: by the element, then by the raw. Assumes nothing.
-use mathlib.Core.Path.{_≡_, sym, ap, ap₂, _∙_, subst}
+use mathlib.Core.Path.{sym, ap₂, _∙_}
 use denote.Ref.{now}
-use Rattle.tables.specs.Table.{Table, tableOf}
+use Rattle.tables.specs.Table.{tableOf}
 use Rattle.walking.specs.declared.Element.{Element}
 use Rattle.fields.specs.declared.Raw.{Raw}
 use Rattle.reading.specs.Groups.{notedBy}

@@ -1,16 +1,15 @@
 -- `reading::groups::repeating_group_count` meets its contract: by the test. Assumes nothing.
-use mathlib.Core.Path.{_≡_, sym, ap, ap₂, _∙_, subst}
+use mathlib.Core.Path.{_≡_, sym, ap, ap₂, _∙_}
 use denote.Ref.{now}
 use mathlib.Core.Bool.{Bool}
-use Prim.Native.Nat.{ℕ, _+_, _-_, _*_, _/_, _≤_, _<_, min}
-use Rattle.tables.specs.Table.{Table, tableOf}
+use Prim.Native.Nat.{ℕ, _-_}
+use Rattle.tables.specs.Table.{tableOf}
 use Rattle.tables.specs.declared.RepeatingFieldSet.{RepeatingFieldSet}
 use Rattle.bits.specs.Bits.{pick}
-use borrow.Author.Tests.{eq-eqb, ne-eqb, le-leb, lt-leb}
+use borrow.Author.Tests.{le-leb, lt-leb}
 use lib.Dec.{leb}
-use Rattle.reading.specs.declared.GroupCount.{GroupCount}
 use Rattle.reading.specs.declared.GroupCount.the-variants.{Count, Refused}
-use Rattle.reading.specs.Groups.{elementCount, tooMany, groupCountOf}
+use Rattle.reading.specs.Groups.{tooMany, groupCountOf}
 use borrow.Author.Needs.{needs}
 use Rattle.reading.proofs.groups.repeating_group_count.Statement.{statement}
 use Rattle.reading.proofs.groups.repeating_group_count.Tie as tie

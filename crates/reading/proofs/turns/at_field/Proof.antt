@@ -1,9 +1,9 @@
 -- `reading::turns::at_field` meets its contract: by the place. Assumes nothing.
-use mathlib.Core.Path.{_≡_, sym, ap, ap₂, _∙_, subst}
+use mathlib.Core.Path.{sym, ap, _∙_}
 use denote.Ref.{now}
-use Prim.Native.Nat.{ℕ, _+_, _*_, _^_, _≤_, _<_}
-use Rattle.tables.specs.Table.{Table, tableOf}
-use Rattle.fields.specs.Payload.{Payload, payloadOf, bitsLeft}
+use Prim.Native.Nat.{_+_}
+use Rattle.tables.specs.Table.{tableOf}
+use Rattle.fields.specs.Payload.{payloadOf}
 use lib.Dec.{eqb}
 use Rattle.walking.specs.declared.Place.{Place}
 use Rattle.walking.specs.Turns.{turnBy}

@@ -1,9 +1,9 @@
 -- `reading::turns::enter` meets its contract: by the count. Assumes nothing.
-use mathlib.Core.Path.{_≡_, sym, ap, ap₂, _∙_, subst}
+use mathlib.Core.Path.{_≡_, sym, ap, ap₂, _∙_}
 use denote.Ref.{now}
-use Prim.Native.Nat.{ℕ, _+_, _*_, _^_, _≤_, _<_}
-use Rattle.tables.specs.Table.{Table, tableOf}
-use Rattle.fields.specs.Payload.{Payload, payloadOf, bitsLeft}
+use Prim.Native.Nat.{ℕ}
+use Rattle.tables.specs.Table.{tableOf}
+use Rattle.fields.specs.Payload.{payloadOf, bitsLeft}
 use lib.ListN.{getD}
 use Rattle.bits.specs.declared.BitPos.{BitPos}
 use Rattle.reading.specs.Groups.{groupCountOf}

@@ -1,10 +1,10 @@
 -- `reading::turns::next_field` meets its contract: by the spot. Assumes nothing.
-use mathlib.Core.Path.{_≡_, sym, ap, ap₂, _∙_, subst}
+use mathlib.Core.Path.{sym, ap, _∙_, subst}
 use denote.Ref.{now}
-use Prim.Native.Nat.{ℕ, _+_, _*_, _^_, _≤_, _<_}
+use Prim.Native.Nat.{ℕ, _≤_, _<_}
 use native.Mathlib.Omega.{arith}
-use Rattle.tables.specs.Table.{Table, tableOf}
-use Rattle.fields.specs.Payload.{Payload, payloadOf, bitsLeft}
+use Rattle.tables.specs.Table.{tableOf}
+use Rattle.fields.specs.Payload.{payloadOf}
 use native.Mathlib.Nat.{mod-lt}
 use lib.Dec.{lit<}
 use lib.ListN.{getD}

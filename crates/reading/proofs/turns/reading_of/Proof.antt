@@ -1,8 +1,8 @@
 -- `reading::turns::reading_of` meets its contract. Assumes nothing.
-use mathlib.Core.Path.{_≡_, sym, ap, ap₂, _∙_, subst}
+use mathlib.Core.Path.{ap, ap₂, _∙_}
 use denote.Ref.{now}
-use Rattle.tables.specs.Table.{Table, tableOf}
-use Rattle.fields.specs.Payload.{Payload, payloadOf}
+use Rattle.tables.specs.Table.{tableOf}
+use Rattle.fields.specs.Payload.{payloadOf}
 use Rattle.descriptor.specs.declared.FieldDescriptor.{FieldDescriptor}
 use Rattle.descriptor.specs.declared.Availability.{Availability}
 use Rattle.descriptor.specs.declared.PgnValue.{PgnValue}

@@ -1,11 +1,11 @@
 -- `reading::turns::see` meets its contract: by what was read. Assumes nothing.
-use mathlib.Core.Path.{_≡_, sym, ap, ap₂, _∙_, subst}
+use mathlib.Core.Path.{_≡_, sym, ap, ap₂, _∙_}
 use mathlib.Core.List.{List}
 use denote.Ref.{now}
-use Prim.Native.Nat.{ℕ, _+_, _*_, _^_, _≤_, _<_}
+use Prim.Native.Nat.{ℕ, _+_, _^_, _<_}
 use native.Mathlib.Omega.{arith}
-use Rattle.tables.specs.Table.{Table, tableOf}
-use Rattle.fields.specs.Payload.{Payload, payloadOf}
+use Rattle.tables.specs.Table.{tableOf}
+use Rattle.fields.specs.Payload.{payloadOf}
 use Rattle.descriptor.specs.declared.FieldDescriptor.{FieldDescriptor}
 use Rattle.reading.specs.declared.Reading.{Reading}
 use Rattle.reading.specs.declared.Answer.the-variants.{Met}

@@ -1,10 +1,10 @@
 -- `reading::turns::within` meets its contract: by the tests. Assumes nothing.
-use mathlib.Core.Path.{_≡_, sym, ap, ap₂, _∙_, subst}
+use mathlib.Core.Path.{sym, ap, _∙_, subst}
 use denote.Ref.{now}
-use Prim.Native.Nat.{ℕ, _+_, _*_, _^_, _≤_, _<_}
+use Prim.Native.Nat.{_+_, _≤_, _<_}
 use native.Mathlib.Omega.{arith}
-use Rattle.tables.specs.Table.{Table, tableOf}
-use Rattle.fields.specs.Payload.{Payload, payloadOf, bitsLeft}
+use Rattle.tables.specs.Table.{tableOf}
+use Rattle.fields.specs.Payload.{payloadOf}
 use Rattle.tables.specs.declared.RepeatingFieldSet.{RepeatingFieldSet}
 use Rattle.tables.proofs.Missing.{Narrow, narrow}
 use Rattle.walking.specs.declared.Element.the-variants.{At}

@@ -1,5 +1,5 @@
 -- `records::into::decode_into` meets its contract: 7, 8, then the walk. Assumes nothing.
-use mathlib.Core.Path.{_≡_, sym, ap, ap₂, _∙_}
+use mathlib.Core.Path.{sym, ap, _∙_}
 use mathlib.Core.List.{List}
 use Prim.Native.Nat.{ℕ}
 use denote.Ref.{now}
@@ -7,7 +7,7 @@ use lib.ListN.{length}
 use Rattle.tables.specs.Table.{tableOf}
 use Rattle.fields.specs.Payload.{payloadOf}
 use Rattle.reading.specs.declared.Prepared.{Prepared}
-use Rattle.reading.specs.Filling.{workingOf, pickedOf, keptUnless, preparedOf}
+use Rattle.reading.specs.Filling.{workingOf, pickedOf, keptUnless}
 use Rattle.reading.specs.Decode.{walkOf, readings, spansOf, endOf, decodedIn, readInto}
 use Rattle.reading.proofs.Working.{ready-accepted, picked-working}
 use Rattle.records.specs.Layout.{roomIn, storedIn}

@@ -1,6 +1,5 @@
 -- `records::into::put_count` meets its contract: by the length. Assumes nothing.
 use mathlib.Core.Path.{_∙_}
-use denote.Ref.{now}
 use Rattle.records.proofs.Counting.{counted-short, counted-long}
 use borrow.Author.Needs.{needs}
 use Rattle.records.proofs.into.put_count.Statement.{statement}

@@ -1,17 +1,15 @@
 -- `records::into::walked` meets its contract: the records, then their count. Assumes nothing.
-use mathlib.Core.Path.{_≡_, sym, ap, ap₂, _∙_, subst}
-use mathlib.Core.List.{List}
+use mathlib.Core.Path.{_≡_, ap, ap₂, _∙_}
 use Prim.Native.Nat.{ℕ}
 use denote.Ref.{now}
 use lib.ListN.{length}
 use Rattle.tables.specs.Table.{tableOf}
 use Rattle.fields.specs.Payload.{payloadOf}
-use Rattle.reading.specs.declared.Decoded.{Decoded}
 use Rattle.reading.specs.Decode.{walkOf, readings, spansOf, endOf}
 use Rattle.records.specs.Layout.{roomIn}
-use Rattle.records.specs.Stretches.{Roomy, stored, countIn, counted}
+use Rattle.records.specs.Stretches.{stored, countIn, counted}
 use Rattle.reading.proofs.Seated.{few}
-use Rattle.records.proofs.Counting.{count-end, roomy-in, stored-in}
+use Rattle.records.proofs.Counting.{count-end, stored-in}
 use borrow.Author.Needs.{needs}
 use Rattle.records.proofs.into.walked.Statement.{statement}
 use Rattle.records.proofs.into.walked.Tie as tie

@@ -1,9 +1,5 @@
 -- `records::readings::put_record` meets its contract: word by word. Assumes nothing.
-use mathlib.Core.Path.{_≡_, sym, ap, _∙_}
-use mathlib.Core.List.{List, [], _∷_}
-use Prim.Native.Nat.{ℕ}
-use Rattle.records.specs.Layout.{laid}
-use Rattle.records.specs.Puts.{puts}
+use mathlib.Core.List.{[], _∷_}
 use Rattle.records.proofs.Putting.{put-more, put-last}
 use borrow.Author.Needs.{needs}
 use Rattle.records.proofs.readings.put_record.Statement.{statement}

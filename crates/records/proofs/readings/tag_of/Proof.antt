@@ -1,5 +1,5 @@
 -- `records::readings::tag_of` meets its contract: each part is small, and they are added up. Assumes nothing.
-use mathlib.Core.Path.{_≡_, ap, ap₂, _∙_}
+use mathlib.Core.Path.{ap, ap₂, _∙_}
 use Prim.Native.Nat.{ℕ, _+_, _*_}
 use native.Mathlib.Omega.{arith}
 use Rattle.descriptor.specs.declared.PgnBytes.{PgnBytes}

@@ -1,5 +1,5 @@
 -- `records::runs::gap` meets its contract: by what the call says. Assumes nothing.
-use mathlib.Core.Path.{_≡_, sym, _∙_}
+use mathlib.Core.Path.{sym, _∙_}
 use denote.Ref.{now}
 use Rattle.tables.specs.Table.{tableOf}
 use Rattle.records.proofs.Quickly.{gap-of}

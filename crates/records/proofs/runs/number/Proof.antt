@@ -1,5 +1,5 @@
 -- `records::runs::number` meets its contract: by what the read says. Assumes nothing.
-use mathlib.Core.Path.{_≡_, sym, _∙_}
+use mathlib.Core.Path.{sym, _∙_}
 use denote.Ref.{now}
 use native.Mathlib.Omega.{arith}
 use Rattle.tables.specs.Table.{tableOf}

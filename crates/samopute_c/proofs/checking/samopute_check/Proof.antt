@@ -1,6 +1,6 @@
 -- `samopute_c::checking::samopute_check` meets its contract: by the case of the check. Assumes nothing.
-use mathlib.Core.Path.{_≡_, sym, ap, _∙_}
-use mathlib.Core.List.{List, [], _∷_}
+use mathlib.Core.Path.{sym, ap, _∙_}
+use mathlib.Core.List.{[], _∷_}
 use Prim.Native.Nat.{ℕ}
 use Rattle.samopute_c.specs.Checks.{checkStatus, checkCells}
 use borrow.Author.Needs.{needs}

@@ -1,10 +1,10 @@
 -- `samopute_c::decoding::filled_by` meets its contract: by the tests. Assumes nothing.
-use mathlib.Core.Path.{_≡_, refl, sym, ap, _∙_}
+use mathlib.Core.Path.{sym, ap, _∙_}
 use mathlib.Core.Bool.{Bool}
 use lib.Dec.{eqb}
 use borrow.Author.Tests.{eq-eqb, ne-eqb}
 use Rattle.bits.specs.Bits.{pick}
-use Rattle.samopute_c.specs.Decodes.{markOf, filledBy}
+use Rattle.samopute_c.specs.Decodes.{markOf}
 use Rattle.samopute_c.proofs.decoding.filled_by.Statement.{statement}
 use Rattle.samopute_c.proofs.decoding.filled_by.Tie as tie
 

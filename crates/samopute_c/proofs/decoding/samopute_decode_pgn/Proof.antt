@@ -1,5 +1,5 @@
 -- `samopute_c::decoding::samopute_decode_pgn` meets its contract: the answer of decoding, laid out. Assumes nothing.
-use mathlib.Core.Path.{_≡_, refl, sym, ap, _∙_}
+use mathlib.Core.Path.{refl, sym, ap, _∙_}
 use Rattle.samopute_c.specs.Decodes.{pgnStatus, pgnCells}
 use borrow.Author.Needs.{needs}
 use Rattle.samopute_c.proofs.decoding.samopute_decode_pgn.Statement.{statement}

@@ -1,7 +1,7 @@
 -- `tables::checking::check` meets its contract: a, then the quick way, then why not. Assumes nothing.
-use mathlib.Core.Path.{_≡_, refl, sym, ap, ap₂, _∙_, subst}
+use mathlib.Core.Path.{sym, _∙_}
 use denote.Ref.{now}
-use Rattle.tables.specs.Table.{Table, tableOf}
+use Rattle.tables.specs.Table.{tableOf}
 use Rattle.tables.proofs.Chain.{sizes-kept, sizes-broken}
 use borrow.Author.Needs.{needs}
 use Rattle.tables.proofs.checking.check.Statement.{statement}

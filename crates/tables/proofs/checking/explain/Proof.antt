@@ -1,11 +1,8 @@
 -- `tables::checking::explain` meets its contract: rule by rule. Assumes nothing.
-use mathlib.Core.Path.{_≡_, refl, sym, ap, ap₂, _∙_, subst}
+use mathlib.Core.Path.{ap, _∙_}
 use denote.Ref.{now}
-use Rattle.tables.specs.Table.{Table, tableOf}
-use Rattle.tables.specs.declared.Found.{Found}
-use Rattle.tables.specs.declared.Checked.{Checked}
-use Rattle.tables.specs.declared.TableRule.{TableRule}
-use Rattle.tables.specs.declared.TableRule.the-variants.{A, B, C, D, E, F, G, H}
+use Rattle.tables.specs.Table.{tableOf}
+use Rattle.tables.specs.declared.TableRule.the-variants.{B, C, D, E, F, G}
 use Rattle.tables.specs.Check.{first}
 use borrow.Author.Needs.{needs}
 use Rattle.tables.proofs.checking.explain.Statement.{statement}

@@ -1,11 +1,9 @@
 -- `tables::checking::first_broken` meets its contract: each before i keeps the rule, so the search is the same from i on. Assumes nothing.
-use mathlib.Core.Path.{_≡_, refl, sym, ap, ap₂, _∙_, subst}
-use Prim.Native.Nat.{ℕ, suc, _+_, _-_, _*_, _≤_, _<_}
+use mathlib.Core.Path.{_≡_, sym, ap, _∙_}
+use Prim.Native.Nat.{_-_, _≤_}
 use native.Mathlib.Omega.{arith}
 use denote.Ref.{now}
-use Rattle.tables.specs.Table.{Table, tableOf}
-use Rattle.tables.specs.declared.TableRule.{TableRule}
-use borrow.Author.Needs.{needs}
+use Rattle.tables.specs.Table.{tableOf}
 use Rattle.tables.specs.Check.{foundFrom}
 use Rattle.tables.proofs.Searches.{found-later, found-here, found-none}
 use Rattle.tables.proofs.checking.first_broken.Statement.{statement}

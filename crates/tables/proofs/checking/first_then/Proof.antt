@@ -1,11 +1,9 @@
 -- `tables::checking::first_then` meets its contract: by what the search finds. Assumes nothing.
-use mathlib.Core.Path.{_≡_, refl, sym, ap, ap₂, _∙_, subst}
-use Prim.Native.Nat.{ℕ, suc, _+_, _-_, _*_, _≤_, _<_}
-use native.Mathlib.Omega.{arith}
+use mathlib.Core.Path.{_≡_, sym, ap, _∙_, subst}
+use Prim.Native.Nat.{ℕ, _-_, _≤_}
 use denote.Ref.{now}
-use Rattle.tables.specs.Table.{Table, tableOf}
+use Rattle.tables.specs.Table.{tableOf}
 use Rattle.tables.specs.declared.Found.{Found}
-use Rattle.tables.specs.declared.Checked.{Checked}
 use Rattle.tables.specs.Check.{reach, foundFrom, settle}
 use Rattle.tables.proofs.Chain.{reach-le}
 use borrow.Author.Needs.{needs}

@@ -1,9 +1,8 @@
 -- `tables::checking::is_clean` meets its contract: where each keeps its rules. Assumes nothing.
-use mathlib.Core.Path.{_≡_, refl, sym, ap, ap₂, _∙_, subst}
-use Prim.Native.Nat.{ℕ, suc, _+_, _-_, _*_, _≤_, _<_}
-use native.Mathlib.Omega.{arith}
+use mathlib.Core.Path.{sym, subst}
+use Prim.Native.Nat.{ℕ, _-_, _<_}
 use denote.Ref.{now}
-use Rattle.tables.specs.Table.{Table, tableOf}
+use Rattle.tables.specs.Table.{tableOf}
 use mathlib.Core.Bool.{true, false≢true}
 use Rattle.tables.proofs.Chain.{clean}
 use borrow.Author.Needs.{needs}

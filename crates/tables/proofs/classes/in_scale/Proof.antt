@@ -1,6 +1,6 @@
 -- `tables::classes::in_scale` meets its contract: the two ends. Assumes nothing.
 use mathlib.Core.Path.{_≡_, refl, sym, ap, _∙_}
-use mathlib.Core.Bool.{Bool, true, false, _&&_}
+use mathlib.Core.Bool.{Bool, false, _&&_}
 use lib.IntN.{pos, negsuc}
 use lib.Ieee.{Float, fin, binary32, le, ofBits}
 use Rattle.tables.proofs.classes.in_scale.Statement.{statement}

@@ -1,5 +1,5 @@
 -- `tables::classes::is_numeric` meets its contract: by the class. Assumes nothing.
-use mathlib.Core.Path.{_≡_, sym, _∙_}
+use mathlib.Core.Path.{sym, _∙_}
 use mathlib.Core.Bool.{false≢true}
 use borrow.Author.Needs.{needs}
 use Rattle.tables.proofs.classes.is_numeric.Statement.{statement}

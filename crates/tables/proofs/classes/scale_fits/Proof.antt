@@ -1,5 +1,5 @@
 -- `tables::classes::scale_fits` meets its contract. Assumes nothing.
-use mathlib.Core.Path.{_≡_, sym, ap, ap₂, _∙_}
+use mathlib.Core.Path.{sym, ap, _∙_}
 use mathlib.Core.Bool.{Bool, _&&_}
 use Rattle.tables.specs.Rules.{inScale}
 use borrow.Author.Needs.{needs}

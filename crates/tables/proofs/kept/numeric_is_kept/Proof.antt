@@ -1,5 +1,5 @@
 -- `tables::kept::numeric_is_kept` meets its contract: by its two tests. Assumes nothing.
-use mathlib.Core.Path.{_≡_, sym, _∙_}
+use mathlib.Core.Path.{sym, _∙_}
 use mathlib.Core.Bool.{false≢true}
 use borrow.Author.Needs.{needs}
 use Rattle.tables.proofs.kept.numeric_is_kept.Statement.{statement}

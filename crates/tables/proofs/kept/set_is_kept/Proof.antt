@@ -1,5 +1,5 @@
 -- `tables::kept::set_is_kept` meets its contract: where each test holds, each rule does. Assumes nothing.
-use mathlib.Core.Path.{_≡_, refl, sym, ap, ap₂, _∙_, subst}
+use mathlib.Core.Path.{sym, _∙_}
 use mathlib.Core.Bool.{false≢true}
 use borrow.Author.Needs.{needs}
 use Rattle.tables.proofs.kept.set_is_kept.Statement.{statement}

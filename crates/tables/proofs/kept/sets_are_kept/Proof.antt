@@ -1,10 +1,8 @@
 -- `tables::kept::sets_are_kept` meets its contract: each before the counter keeps its rules. Assumes nothing.
-use mathlib.Core.Path.{_≡_, refl, sym, ap, ap₂, _∙_, subst}
-use Prim.Native.Nat.{ℕ, suc, _+_, _-_, _*_, _≤_, _<_}
+use Prim.Native.Nat.{ℕ, _-_, _≤_, _<_}
 use native.Mathlib.Omega.{arith}
-use denote.Ref.{now}
-use Rattle.tables.specs.Table.{Table, tableOf}
-use Rattle.tables.specs.Check.{keeps, KeptField, KeptSet}
+use Rattle.tables.specs.Table.{tableOf}
+use Rattle.tables.specs.Check.{KeptSet}
 use mathlib.Core.Bool.{true, false≢true}
 use borrow.Author.Count.{below-more}
 use borrow.Author.Needs.{needs}

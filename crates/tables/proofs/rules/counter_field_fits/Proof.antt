@@ -1,8 +1,7 @@
 -- `tables::rules::counter_field_fits` meets its contract: by the tests. Assumes nothing.
-use mathlib.Core.Path.{_≡_, refl, sym, ap, ap₂, _∙_, subst}
-use mathlib.Core.Bool.{Bool, true, false, not, _&&_, _||_}
-use Rattle.descriptor.specs.declared.FieldDescriptor.{FieldDescriptor}
-use Rattle.tables.specs.Rules.{within, counts, scaled, counterFieldFits}
+use mathlib.Core.Path.{sym, ap, ap₂, _∙_}
+use mathlib.Core.Bool.{Bool, true, false, not, _&&_}
+use Rattle.tables.specs.Rules.{within, scaled, counterFieldFits}
 use borrow.Author.Needs.{needs}
 use Rattle.tables.proofs.rules.counter_field_fits.Statement.{statement}
 use Rattle.tables.proofs.rules.counter_field_fits.Tie as tie

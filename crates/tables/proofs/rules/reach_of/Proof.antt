@@ -1,7 +1,7 @@
 -- `tables::rules::reach_of` meets its contract: by the rule. Assumes nothing.
-use mathlib.Core.Path.{_≡_, refl, sym, ap, ap₂, _∙_, subst}
+use mathlib.Core.Path.{sym, ap, _∙_}
 use denote.Ref.{now}
-use Rattle.tables.specs.Table.{Table, tableOf}
+use Rattle.tables.specs.Table.{tableOf}
 use Rattle.tables.specs.declared.TableRule.{TableRule}
 use Rattle.tables.specs.Check.{reach}
 use borrow.Author.Needs.{needs}

@@ -1,14 +1,13 @@
 -- `tables::rules::sizes_fit` meets its contract: by the tests. Assumes nothing.
-use mathlib.Core.Path.{_≡_, refl, sym, ap, ap₂, _∙_, subst}
-use mathlib.Core.Bool.{Bool, true, false, not, _&&_, _||_}
-use Prim.Native.Nat.{ℕ, suc, _+_, _-_, _*_, _≤_, _<_}
-use native.Mathlib.Omega.{arith}
+use mathlib.Core.Path.{_≡_, sym, ap, ap₂, _∙_, subst}
+use mathlib.Core.Bool.{Bool, _&&_, _||_}
+use Prim.Native.Nat.{ℕ, _-_, _≤_, _<_}
 use denote.Ref.{now}
 use lib.Dec.{leb, eqb}
 use borrow.Author.Tests.{le-leb, lt-leb}
-use Rattle.tables.specs.Table.{Table, tableOf}
+use Rattle.tables.specs.Table.{tableOf}
 use Rattle.tables.specs.Rules.{within}
-use Rattle.tables.specs.Check.{sizesFit, lengthFits}
+use Rattle.tables.specs.Check.{lengthFits}
 use borrow.Author.Needs.{needs}
 use Rattle.tables.proofs.rules.sizes_fit.Statement.{statement}
 use Rattle.tables.proofs.rules.sizes_fit.Tie as tie

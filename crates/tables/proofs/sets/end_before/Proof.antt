@@ -1,10 +1,10 @@
 -- `tables::sets::end_before` meets its contract. Assumes nothing.
-use mathlib.Core.Path.{_≡_, refl, sym, ap, ap₂, _∙_, subst}
-use Prim.Native.Nat.{ℕ, suc, _+_, _-_, _*_, _≤_, _<_}
+use mathlib.Core.Path.{_≡_, sym, ap, _∙_, subst}
+use Prim.Native.Nat.{suc, _+_, _-_}
 use native.Mathlib.Omega.{arith}
 use denote.Ref.{now}
 use Rattle.tables.specs.declared.RepeatingFieldSet.{RepeatingFieldSet}
-use Rattle.tables.specs.Table.{Table, tableOf}
+use Rattle.tables.specs.Table.{tableOf}
 use Rattle.tables.specs.Rules.{endBefore}
 use Rattle.tables.proofs.Missing.{Narrow, narrow}
 use borrow.Author.Needs.{needs}

@@ -1,12 +1,12 @@
 -- `tables::sets::in_sets` meets its contract: no set up to k holds the field. Assumes nothing.
-use mathlib.Core.Path.{_≡_, refl, sym, ap, ap₂, _∙_, subst}
-use mathlib.Core.Bool.{Bool, true, false, not, _&&_, _||_}
-use Prim.Native.Nat.{ℕ, suc, _+_, _-_, _*_, _≤_, _<_}
+use mathlib.Core.Path.{_≡_, refl, sym, ap, ap₂, _∙_}
+use mathlib.Core.Bool.{Bool, false, _||_}
+use Prim.Native.Nat.{_-_, _≤_}
 use native.Mathlib.Omega.{arith}
 use borrow.Author.Needs.{needs}
 use denote.Ref.{now}
-use Rattle.tables.specs.Table.{Table, tableOf}
-use Rattle.tables.specs.Rules.{inSet, inSets}
+use Rattle.tables.specs.Table.{tableOf}
+use Rattle.tables.specs.Rules.{inSets}
 use Rattle.tables.proofs.Searches.{in-more, in-one}
 use Rattle.tables.proofs.sets.in_sets.Statement.{statement}
 use Rattle.tables.proofs.sets.in_sets.Tie as tie

@@ -1,5 +1,4 @@
 -- `tables::words::set_of` meets its contract: its parts. Assumes nothing.
-use mathlib.Core.Path.{_≡_}
 use borrow.Author.Needs.{needs}
 use Rattle.tables.proofs.words.set_of.Statement.{statement}
 use Rattle.tables.proofs.words.set_of.Tie as tie

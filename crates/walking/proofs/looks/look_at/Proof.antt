@@ -1,5 +1,5 @@
 -- `walking::looks::look_at` meets its contract: by the spot. Assumes nothing.
-use mathlib.Core.Path.{_≡_, sym, ap, _∙_, subst}
+use mathlib.Core.Path.{sym, ap, _∙_, subst}
 use denote.Ref.{now}
 use Prim.Native.Nat.{ℕ, _≤_, _<_}
 use native.Mathlib.Nat.{mod-lt}
@@ -7,7 +7,6 @@ use native.Mathlib.Omega.{arith}
 use lib.Dec.{lit<}
 use lib.ListN.{getD}
 use Rattle.tables.specs.Table.{tableOf}
-use Rattle.walking.specs.declared.Spot.the-variants as spot
 use Rattle.walking.specs.Looks.{lookOf}
 use Rattle.walking.proofs.Looked.{field-looks, field-ends}
 use borrow.Author.Needs.{needs}

@@ -1,11 +1,10 @@
 -- `walking::looks::look_by` meets its contract: by the place. Assumes nothing.
-use mathlib.Core.Path.{_≡_, sym, ap, _∙_}
+use mathlib.Core.Path.{sym, ap, _∙_}
 use denote.Ref.{now}
 use Prim.Native.Nat.{ℕ, _+_}
 use lib.Dec.{eqb}
 use Rattle.tables.specs.Table.{tableOf}
 use Rattle.walking.specs.declared.Element.the-variants.{Outside}
-use Rattle.walking.specs.declared.Place.{Place}
 use Rattle.walking.specs.declared.Spot.the-variants.{Field}
 use Rattle.walking.specs.declared.Look.the-variants.{Meet}
 use Rattle.walking.specs.Looks.{lookBy}

@@ -1,21 +1,15 @@
 -- `walking::looks::look_within` meets its contract: by the tests. Assumes nothing.
-use mathlib.Core.Path.{_≡_, sym, ap, _∙_, subst}
+use mathlib.Core.Path.{sym, subst}
 use denote.Ref.{now}
-use Prim.Native.Nat.{ℕ, _+_, _≤_, _<_}
+use Prim.Native.Nat.{_<_}
 use native.Mathlib.Omega.{arith}
-use mathlib.Core.Bool.{Bool, true, false}
-use lib.Dec.{ltb}
-use borrow.Author.Tests.{lt-ltb, le-ltb}
-use Rattle.bits.specs.Bits.{pick}
 use Rattle.tables.specs.Table.{tableOf}
 use Rattle.tables.specs.declared.RepeatingFieldSet.{RepeatingFieldSet}
 use Rattle.tables.proofs.Missing.{Narrow, narrow}
-use Rattle.walking.specs.declared.Look.{Look}
 use Rattle.walking.proofs.Looked.{within-meets, within-next, within-out}
 use borrow.Author.Needs.{needs}
 use Rattle.walking.proofs.looks.look_within.Statement.{statement}
 use Rattle.walking.proofs.looks.look_within.Tie as tie
-use Rattle.walking.proofs.looks.look_within.Lts as lts
 
 set-at-requires : tie.Need-set-at-requires
 set-at-requires c κs = search needs

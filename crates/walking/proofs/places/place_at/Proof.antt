@@ -1,18 +1,16 @@
 -- `walking::places::place_at` meets its contract: no set before k starts at the field, so the search is the same from k on.
 -- Assumes nothing.
-use mathlib.Core.Path.{_≡_, refl, sym, ap, _∙_}
+use mathlib.Core.Path.{_≡_, sym, ap, _∙_}
 use mathlib.Core.Bool.{Bool}
-use Prim.Native.Nat.{ℕ, _-_, _≤_, _<_}
+use Prim.Native.Nat.{_-_, _≤_}
 use native.Mathlib.Omega.{arith}
 use denote.Ref.{now}
-use lib.Dec.{eqb}
 use borrow.Author.Needs.{needs}
 use borrow.Author.Tests.{eq-eqb, ne-eqb}
 use Rattle.bits.specs.Bits.{pick}
 use Rattle.tables.specs.Table.{tableOf}
 use Rattle.tables.specs.declared.RepeatingFieldSet.{RepeatingFieldSet}
-use Rattle.walking.specs.declared.Place.{Place}
-use Rattle.walking.specs.declared.Place.the-variants.{Starts, Inside, Plain}
+use Rattle.walking.specs.declared.Place.the-variants.{Inside, Plain}
 use Rattle.walking.specs.Walk.{placeFrom, placeOf}
 use Rattle.walking.proofs.Starts.{place-here, place-later, place-none}
 use Rattle.walking.proofs.places.place_at.Statement.{statement}

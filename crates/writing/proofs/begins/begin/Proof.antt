@@ -1,5 +1,5 @@
 -- `writing::begins::begin` meets its contract: by what the tests say. Assumes nothing.
-use mathlib.Core.Path.{_≡_, sym, ap, _∙_}
+use mathlib.Core.Path.{sym, ap, _∙_}
 use denote.Ref.{now}
 use Rattle.writing.specs.declared.Begun.{Begun}
 use Rattle.writing.specs.Strokes.{onesIf}

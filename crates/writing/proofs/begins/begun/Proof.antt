@@ -1,9 +1,7 @@
 -- `writing::begins::begun` meets its contract: by the size, then by the check. Assumes nothing.
-use mathlib.Core.Path.{_≡_, sym, ap, _∙_}
+use mathlib.Core.Path.{sym, ap, _∙_}
 use denote.Ref.{now}
-use Prim.Native.Nat.{ℕ, _<_}
 use Rattle.tables.specs.Table.{tableOf}
-use Rattle.tables.specs.declared.Checked.{Checked}
 use Rattle.writing.specs.Encode.{byCheck}
 use Rattle.writing.proofs.Readied.{begun-long, begun-checked}
 use borrow.Author.Needs.{needs}

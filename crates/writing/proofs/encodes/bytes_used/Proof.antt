@@ -1,6 +1,6 @@
 -- `writing::encodes::bytes_used` meets its contract. Assumes nothing.
 use mathlib.Core.Path.{_≡_, ap}
-use Prim.Native.Nat.{ℕ, _+_, _/_, _%_}
+use Prim.Native.Nat.{_+_, _/_, _%_}
 use native.Mathlib.Omega.{arith}
 use Rattle.bits.specs.Calls.{bytes}
 use borrow.Author.Needs.{needs}

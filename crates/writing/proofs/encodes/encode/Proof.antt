@@ -1,6 +1,5 @@
 -- `writing::encodes::encode` meets its contract: 7 and 8, then the walk. Assumes nothing.
-use mathlib.Core.Path.{_≡_, sym, ap, _∙_, subst}
-use mathlib.Core.List.{List}
+use mathlib.Core.Path.{_≡_, sym, ap, _∙_}
 use denote.Ref.{now}
 use Prim.Native.Nat.{ℕ}
 use lib.ListN.{length, replicate, length-replicate}
@@ -8,7 +7,7 @@ use Rattle.tables.specs.Table.{tableOf}
 use Rattle.offers.specs.Records.{valuesIn}
 use Rattle.writing.specs.declared.Begun.{Begun}
 use Rattle.writing.specs.declared.Begun.the-variants as begun
-use Rattle.writing.specs.Encode.{writesOf, endOf, marksOf, imageOf, encodedIn, bufferIn, begunOf}
+use Rattle.writing.specs.Encode.{writesOf, endOf, marksOf, imageOf, encodedIn, bufferIn}
 use Rattle.writing.specs.Strokes.{onesIf}
 use Rattle.writing.proofs.Readied.{begun-accepted}
 use borrow.Author.Needs.{needs}

@@ -1,11 +1,11 @@
 -- `writing::encodes::written` meets its contract: turn by turn, what is met and what is left are the walk, and the buffer is the image of what
 -- is met. Assumes nothing.
-use mathlib.Core.Path.{_≡_, sym, ap, ap₂, _∙_, subst}
+use mathlib.Core.Path.{_≡_, sym, ap, _∙_, subst}
 use mathlib.Core.List.{List}
 use denote.Ref.{now}
 use Prim.Native.Nat.{ℕ}
 use lib.ListN.{length}
-use Rattle.tables.specs.Table.{Table, tableOf}
+use Rattle.tables.specs.Table.{tableOf}
 use Rattle.tables.specs.Check.{checkOf}
 use Rattle.tables.specs.declared.Checked.the-variants.{Accepted}
 use Rattle.offers.specs.declared.Offer.{Offer}

@@ -1,5 +1,5 @@
 -- `writing::ink::write_field` meets its contract: what was weighed has room. Assumes nothing.
-use mathlib.Core.Path.{_≡_, sym, ap, _∙_, subst}
+use mathlib.Core.Path.{sym, ap, _∙_, subst}
 use denote.Ref.{now}
 use lib.ListN.{length}
 use Rattle.weighing.specs.declared.Weighed.{Weighed}

@@ -1,5 +1,5 @@
 -- `writing::strokes::end_of` meets its contract: by the offer. Assumes nothing.
-use mathlib.Core.Path.{_≡_, sym, ap, _∙_}
+use mathlib.Core.Path.{sym, ap, _∙_}
 use denote.Ref.{now}
 use Prim.Native.Nat.{ℕ}
 use Rattle.tables.specs.Table.{tableOf}

@@ -1,17 +1,13 @@
 -- `writing::strokes::enter` meets its contract: by the count. Assumes nothing.
-use mathlib.Core.Path.{_≡_, sym, ap, ap₂, _∙_, subst}
+use mathlib.Core.Path.{_≡_, ap, ap₂, _∙_, subst}
 use denote.Ref.{now}
 use Prim.Native.Nat.{ℕ, _≤_, _<_, min}
-use lib.ListN.{getD}
 use Rattle.numbers.specs.Special.{elementsOf}
 use Rattle.descriptor.specs.declared.FieldDescriptor.{FieldDescriptor}
 use Rattle.tables.specs.Table.{tableOf}
 use Rattle.tables.specs.declared.RepeatingFieldSet.{RepeatingFieldSet}
-use Rattle.walking.specs.declared.Spot.{Spot}
-use Rattle.walking.specs.declared.Spot.the-variants as spot
 use Rattle.walking.specs.Looks.{enterWith}
-use Rattle.writing.specs.declared.Stroked.{Stroked}
-use Rattle.writing.specs.declared.Stroke.the-variants.{Moved, Refused}
+use Rattle.writing.specs.declared.Stroke.the-variants.{Refused}
 use Rattle.writing.specs.Encode.{oneOf, countOf, tooMany}
 use Rattle.writing.specs.Strokes.{strokedTo, shown}
 use Rattle.writing.proofs.Turning.{enters, exceeds}

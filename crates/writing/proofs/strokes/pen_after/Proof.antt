@@ -1,5 +1,5 @@
 -- `writing::strokes::pen_after` meets its contract: by what was weighed. Assumes nothing.
-use mathlib.Core.Path.{_≡_, sym, ap, ap₂, _∙_, subst}
+use mathlib.Core.Path.{sym, ap, ap₂, _∙_, subst}
 use mathlib.Core.List.{List}
 use denote.Ref.{now}
 use Prim.Native.Nat.{ℕ, _+_}

@@ -1,9 +1,7 @@
 -- `writing::strokes::put_content` meets its contract: by the shape, then by the offer. Assumes nothing.
-use mathlib.Core.Path.{_≡_, sym, ap, _∙_}
+use mathlib.Core.Path.{sym, ap, _∙_}
 use denote.Ref.{now}
-use Prim.Native.Nat.{ℕ}
 use lib.ListN.{length}
-use Rattle.offers.specs.declared.Offer.{Offer}
 use Rattle.weighing.specs.declared.Weighed.{Weighed}
 use Rattle.writing.specs.Ink.{inked}
 use Rattle.writing.proofs.Contents.{content-gap, content-offered, gap-inks}

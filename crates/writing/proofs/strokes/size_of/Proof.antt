@@ -1,5 +1,5 @@
 -- `writing::strokes::size_of` meets its contract: by what was weighed. Assumes nothing.
-use mathlib.Core.Path.{_≡_, sym, ap, _∙_}
+use mathlib.Core.Path.{sym, ap}
 use Rattle.writing.specs.Strokes.{sizeOf}
 use borrow.Author.Needs.{needs}
 use Rattle.writing.proofs.strokes.size_of.Statement.{statement}

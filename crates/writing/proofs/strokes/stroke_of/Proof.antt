@@ -1,5 +1,5 @@
 -- `writing::strokes::stroke_of` meets its contract: by what was weighed. Assumes nothing.
-use mathlib.Core.Path.{_≡_, sym, ap, _∙_}
+use mathlib.Core.Path.{sym, ap}
 use Rattle.weighing.specs.declared.Weighed.{Weighed}
 use Rattle.writing.specs.Strokes.{strokeBy}
 use borrow.Author.Needs.{needs}

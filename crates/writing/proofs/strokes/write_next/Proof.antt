@@ -1,11 +1,8 @@
 -- `writing::strokes::write_next` meets its contract: by what is to be done at the spot. Assumes nothing.
-use mathlib.Core.Path.{_≡_, refl, sym, ap, _∙_}
+use mathlib.Core.Path.{sym, ap, _∙_}
 use denote.Ref.{now}
-use Prim.Native.Nat.{ℕ}
 use lib.ListN.{length}
 use Rattle.tables.specs.Table.{tableOf}
-use Rattle.walking.specs.declared.Look.{Look}
-use Rattle.walking.specs.Looks.{lookOf}
 use Rattle.writing.specs.declared.Stroke.{Stroke}
 use Rattle.writing.specs.Encode.{countOf}
 use Rattle.writing.specs.Strokes.{strokedTo}
