@@ -1,5 +1,6 @@
 #!/usr/bin/env bash
-# The built programs on what one stdin file cannot hold: no input, no last newline, very long lines, any bytes at all.
+# The built programs on what one stdin file cannot hold: no input, no last newline, very long lines, any bytes at all, a pipe
+# that stays open, and input or output that fails.
 # Wants them in target/bin (rt check). Last line: 'N passed, M failed'.
 set -u
 cd "$(dirname "$0")/.." || exit 1
@@ -11,7 +12,13 @@ failed=0
 
 # same NAME: what $program writes for $work/in is $work/wanted, byte for byte.
 same() {
-    if "target/bin/$program" <"$work/in" >"$work/got" && cmp -s "$work/got" "$work/wanted"; then
+    "target/bin/$program" <"$work/in" >"$work/got" || echo "exit status $?" >>"$work/got"
+    wrote "$1"
+}
+
+# wrote NAME: $work/got, what $program wrote, is $work/wanted, byte for byte.
+wrote() {
+    if cmp -s "$work/got" "$work/wanted"; then
         passed=$((passed + 1))
         echo "ok $program: $1"
     else
@@ -20,6 +27,17 @@ same() {
         head -c 300 "$work/wanted"
         echo "--"
         head -c 300 "$work/got"
+    fi
+}
+
+# told NAME WHY: $work/err, what $program wrote to standard error, is one line that gives its name and WHY.
+told() {
+    if echo "$program: $2" | cmp -s - "$work/err"; then
+        passed=$((passed + 1))
+        echo "ok $program: $1"
+    else
+        failed=$((failed + 1))
+        echo "FAILED $program: $1: wanted '$program: $2', and standard error has '$(head -c 300 "$work/err")'"
     fi
 }
 
@@ -60,6 +78,41 @@ for program in bitcalls numbercalls tablecalls samopute readcalls compose; do
     for _ in $(seq 100); do awk 1 "$list/stdin"; done >"$work/in"
     for _ in $(seq 100); do cat "$list/stdout"; done >"$work/wanted"
     same "the stored list a hundred times"
+
+    # The output fails, in the middle of answers that take several lines too: it is told once.
+    if [ -w /dev/full ]; then
+        "target/bin/$program" <"$work/in" 2>"$work/err" >/dev/full
+        told "a full device is told on standard error" 'standard output: No space left on device'
+    fi
+    "target/bin/$program" <<<'' 2>"$work/err" >&-
+    told "a closed standard output is told on standard error" 'standard output: Bad file descriptor'
+
+    "target/bin/$program" <"$work" 2>"$work/err" >"$work/got"
+    told "a directory as standard input is told on standard error" 'standard input: Is a directory'
+
+    # A whole line and a part of one in a pipe that does not wait (dd sets that): the second read fails.
+    mkfifo "$work/pipe"
+    exec 3<>"$work/pipe"
+    dd iflag=nonblock count=0 status=none <&3
+    printf '\n01F802' >&3
+    "target/bin/$program" <&3 2>"$work/err" >"$work/got"
+    exec 3>&-
+    rm "$work/pipe"
+    printf 'F 14\n' >"$work/wanted"
+    wrote "a line that a failed read cuts short is not answered"
+    told "a read that fails in a line is told on standard error" 'standard input: Resource temporarily unavailable'
+
+    # Two lines one after the other, and no end: each is answered before the program waits for the next.
+    (
+        coproc "target/bin/$program"
+        for _ in 1 2; do
+            echo >&"${COPROC[1]}"
+            IFS= read -r -t 10 answer <&"${COPROC[0]}" || break
+            echo "$answer"
+        done
+    ) >"$work/got"
+    printf 'F 14\nF 14\n' >"$work/wanted"
+    wrote "a line is answered while the input stays open"
 done
 
 program=samopute
@@ -90,17 +143,6 @@ for n in $(seq 0 40); do
     for _ in $(seq 20); do cat "$work/lines"; done
 done >"$work/wanted"
 same "frames of 151 lines across the edges of the output buffer"
-
-# The output fails: a word on standard error, and the program ends.
-if [ -w /dev/full ]; then
-    if "target/bin/$program" <"$work/in" 2>"$work/err" >/dev/full; [ "$(cat "$work/err")" = 'samopute: standard output: No space left on device' ]; then
-        passed=$((passed + 1))
-        echo "ok $program: a full device is told on standard error"
-    else
-        failed=$((failed + 1))
-        echo "FAILED $program: a full device: $(head -c 300 "$work/err")"
-    fi
-fi
 
 program=readcalls
 printf '64 223 1,800 01\r\n64 223 1,800 01' >"$work/in"

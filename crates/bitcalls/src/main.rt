@@ -39,11 +39,11 @@ fn run(input: &mut [u8], line: &mut [u8], out: &mut [u8])
     let mut turns = u64::MAX;
     let mut at = textio::start();
     while turns > 0 && at.is_open {
-        let next = textio::step(input, line, at);
+        let next = textio::step(input, line, out, at);
         at = answered(line, out, next);
         turns -= 1;
     }
-    textio::finish(out, at);
+    textio::finish(b"bitcalls", out, at);
 }
 
 // Answers the line, if it is whole.

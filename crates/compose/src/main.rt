@@ -61,11 +61,11 @@ fn run(input: &mut [u8], line: &mut [u8], values: &mut [u8], lent: &mut [u8], ou
     let mut turns = u64::MAX;
     let mut at = textio::start();
     while turns > 0 && at.is_open {
-        let next = textio::step(input, line, at);
+        let next = textio::step(input, line, out, at);
         at = answered(line, values, lent, out, next);
         turns -= 1;
     }
-    textio::finish(out, at);
+    textio::finish(b"compose", out, at);
 }
 
 // Answers the line, if it is whole.

@@ -9,8 +9,8 @@
 // RAW is hexadecimal; where there is none it is PLACE:LENGTH of the text or bytes, in decimal.
 //
 // Promise: any bytes may come, and any number of them, on lines of any length; the memory used stays
-// the same. The last line may lack its newline. Where the output fails the program says so on
-// standard error and ends.
+// the same. The last line may lack its newline. Answers are written before more input is waited for.
+// Where the input or the output fails the program says so on standard error and ends.
 mod pieces;
 
 ghost use mathlib.Core.Path.{_≡_};
@@ -19,7 +19,7 @@ ghost use lib.ListN.{length};
 
 // Where the program stands between two steps: what is known of the line; which part of the input is
 // not taken yet; how many bytes of answers wait to be written. `is_open` is false once the input has
-// ended or the output has failed.
+// ended or something has failed.
 pub(crate) struct At {
     line: frames::Line,
     from: usize,

@@ -27,7 +27,8 @@ pub(crate) fn start() -> At
     }
 }
 
-// One step: takes what was read to the end of the line, or of what was read; or reads anew.
+// One step: takes what was read to the end of the line, or of what was read; or reads anew. A read may
+// wait for long, so the answers are written before it.
 pub(crate) fn step(input: &mut [u8], payload: &mut [u8], out: &mut [u8], at: At) -> At
     requires { ⌜ (length (now input) ≡ 65536) × (length (now payload) ≡ 223) × (length (now out) ≡ 65536) ⌝ }
     requires { ⌜ Within at ⌝ }
@@ -36,7 +37,11 @@ pub(crate) fn step(input: &mut [u8], payload: &mut [u8], out: &mut [u8], at: At)
     if at.from < at.to {
         return take(input, payload, out, at);
     }
-    read(input, payload, out, at)
+    let next = flushed(out, at.waiting, at);
+    if next.is_open {
+        return read(input, payload, out, next);
+    }
+    next
 }
 
 // Reads once. The input has ended where nothing came; where reading failed the line is cut short, and
@@ -153,7 +158,7 @@ fn print(message: Message, payload: &[u8], out: &mut [u8], to: usize, at: At) ->
 }
 
 // The first n bytes are answers. Where they leave no room for the first lines of one more answer they
-// are written; where that fails nothing follows.
+// are written. After a failed write nothing waits.
 fn written(out: &[u8], n: usize, at: At) -> At
     requires { ⌜ (length (now out) ≡ 65536) × (n ≤ 65536) ⌝ }
     requires { ⌜ Within at ⌝ }
@@ -168,6 +173,17 @@ fn written(out: &[u8], n: usize, at: At) -> At
         next.waiting = n;
         return next;
     }
+    flushed(out, n, at)
+}
+
+// Writes the first n bytes, which are all that wait; where that fails nothing follows.
+fn flushed(out: &[u8], n: usize, at: At) -> At
+    requires { ⌜ (length (now out) ≡ 65536) × (n ≤ 65536) ⌝ }
+    requires { ⌜ Within at ⌝ }
+    ensures { λ r. ⌜ Within r ⌝ }
+{
+    let mut next = at;
+    next.waiting = 0;
     next.is_open = is_written(out, n);
     next
 }

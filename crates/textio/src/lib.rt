@@ -1,8 +1,10 @@
 // Text for programs that answer lines: reading lines and their fields, and putting answers.
 //
-// Promise: any bytes may come, and any number of them; the memory used stays the same. A function that
-// puts text asks for the room that its longest text takes, and says where the text ends. Which text it
-// is no contract says, as none can say what is read or written.
+// Promise: any bytes may come, and any number of them; the memory used stays the same. Answers are
+// written before more input is waited for. Where the input or the output fails it is said on standard
+// error, and the program ends. A function that puts text asks for the room that its longest text takes,
+// and says where the text ends. Which text it is no contract says, as none can say what is read or
+// written.
 mod columns;
 mod digits;
 mod steps;
@@ -33,7 +35,8 @@ pub use crate::steps::step;
 
 // Where a program stands between two steps: how many bytes of the line are held; which part of the
 // input is not taken yet; how many bytes of answers wait to be written. `is_whole`: the line is to be
-// answered. `is_open` is false once the input has ended or the output has failed.
+// answered. `is_open` is false once the input has ended or something has failed: `failed` says what, as
+// `steps` numbers it.
 pub struct Lines {
     pub held: usize,
     pub from: usize,
@@ -42,4 +45,5 @@ pub struct Lines {
     pub is_long: bool,
     pub is_whole: bool,
     pub is_open: bool,
+    pub failed: u8,
 }

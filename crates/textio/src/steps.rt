@@ -7,11 +7,19 @@ ghost use lib.ListN.{length};
 ghost use Rattle.textio.specs.Bounds.{Within};
 use crate::Lines;
 use crate::digits::put;
+use libc::STDERR_FILENO;
 use libc::STDIN_FILENO;
 use libc::STDOUT_FILENO;
 
 // More answers than this are written at once: else there is room for one more, of 1,024 bytes.
 const OUT_FULL: usize = 64512;
+
+// What has failed.
+const NOTHING: u8 = 0;
+
+const INPUT: u8 = 1;
+
+const OUTPUT: u8 = 2;
 
 pub fn start() -> Lines
     ensures { λ r. ⌜ (Within r) × (r .held ≡ 0) ⌝ }
@@ -24,23 +32,29 @@ pub fn start() -> Lines
         is_long: false,
         is_whole: false,
         is_open: true,
+        failed: NOTHING,
     }
 }
 
-// One step: takes what was read to the end of the line, or of what was read; or reads anew.
-pub fn step(input: &mut [u8], line: &mut [u8], at: Lines) -> Lines
-    requires { ⌜ (length (now input) ≡ 65536) × (at .held ≤ length (now line)) ⌝ }
+// One step: takes what was read to the end of the line, or of what was read; or reads anew. A read may
+// wait for long, so the answers are written before it.
+pub fn step(input: &mut [u8], line: &mut [u8], out: &[u8], at: Lines) -> Lines
+    requires { ⌜ (length (now input) ≡ 65536) × (at .held ≤ length (now line)) × (length (now out) ≡ 65536) ⌝ }
     requires { ⌜ Within at ⌝ }
     ensures { λ r. ⌜ (Within r) × (r .held ≤ length (now (line .entry))) ⌝ }
 {
     if at.from < at.to {
         return take(input, line, at);
     }
-    read(input, at)
+    let next = written(out, at.waiting, at);
+    if next.is_open {
+        return read(input, next);
+    }
+    next
 }
 
 // Reads once. The input has ended where nothing came; then a line with no newline counts if it is not
-// empty.
+// empty. Where reading failed the line is cut short, and is not answered.
 fn read(input: &mut [u8], at: Lines) -> Lines
     requires { ⌜ length (now input) ≡ 65536 ⌝ }
     requires { ⌜ Within at ⌝ }
@@ -52,6 +66,10 @@ fn read(input: &mut [u8], at: Lines) -> Lines
     next.from = 0;
     next.to = n;
     next.is_open = n != 0;
+    if got < 0 {
+        next.failed = INPUT;
+        return next;
+    }
     if n == 0 && at.held != 0 {
         return ended(next);
     }
@@ -110,7 +128,7 @@ fn ended(at: Lines) -> Lines
 }
 
 // After a line's answer, which ends at `to`: the newline. Where there is no room for one more answer,
-// what waits is written; where that fails no line follows.
+// what waits is written.
 pub fn next_line(out: &mut [u8], to: usize, at: Lines) -> Lines
     requires { ⌜ (length (now out) ≡ 65536) × (to < 65536) ⌝ }
     requires { ⌜ Within at ⌝ }
@@ -125,16 +143,46 @@ pub fn next_line(out: &mut [u8], to: usize, at: Lines) -> Lines
         next.waiting = n;
         return next;
     }
+    written(out, n, next)
+}
+
+// Writes the first n bytes, which are all that wait. Where that fails no line follows, and nothing more
+// is written, as it would stand after a gap.
+fn written(out: &[u8], n: usize, at: Lines) -> Lines
+    requires { ⌜ (length (now out) ≡ 65536) × (n ≤ 65536) ⌝ }
+    requires { ⌜ Within at ⌝ }
+    ensures { λ r. ⌜ (Within r) × (r .held ≡ at .held) ⌝ }
+{
+    let mut next = at;
     next.waiting = 0;
-    next.is_open = io::write_all(STDOUT_FILENO, &out[0..n]) && at.is_open;
+    if at.failed == OUTPUT {
+        return next;
+    }
+    if io::write_all(STDOUT_FILENO, &out[0..n]) {
+        return next;
+    }
+    next.failed = OUTPUT;
+    next.is_open = false;
     next
 }
 
-// Writes what waits.
-pub fn finish(out: &[u8], at: Lines)
+// Writes what waits, and says on standard error what has failed, if anything has. `name` is the
+// program's. Since a failure nothing was read or written, so errno still says why.
+pub fn finish(name: &[u8], out: &[u8], at: Lines)
     requires { ⌜ length (now out) ≡ 65536 ⌝ }
     requires { ⌜ Within at ⌝ }
 {
-    let waiting = at.waiting;
-    io::write_all(STDOUT_FILENO, &out[0..waiting]);
+    let last = written(out, at.waiting, at);
+    if last.failed == INPUT {
+        tell(name, b": standard input");
+    }
+    if last.failed == OUTPUT {
+        tell(name, b": standard output");
+    }
+}
+
+// A line on standard error. A write that succeeds leaves errno as it was.
+fn tell(name: &[u8], what: &[u8]) {
+    io::write_all(STDERR_FILENO, name);
+    os::fail(what);
 }

@@ -9,10 +9,10 @@ use Rattle.compose.proofs.run.Statement.{statement}
 use Rattle.compose.proofs.run.Tie as tie
 
 abbrev Inv-loop : tie.InvT-loop
-Inv-loop input₀ line₀ values₀ lent₀ out₀ turns₀ at₀ input line values lent out turns at = ((length input ≡ 65536) × (length line ≡ 8192) × (length values ≡ 48000) × (length lent ≡ length lent₀) × (length out ≡ 65536) × (at .held ≤ 8192)) × Within at
+Inv-loop input₀ line₀ values₀ lent₀ out₀ turns₀ at₀ name input line values lent out turns at = ((length input ≡ 65536) × (length line ≡ 8192) × (length values ≡ 48000) × (length lent ≡ length lent₀) × (length out ≡ 65536) × (at .held ≤ 8192)) × Within at
 
 abbrev μ-loop : tie.MeasureT-loop
-μ-loop input₀ line₀ values₀ lent₀ out₀ turns₀ at₀ input line values lent out turns at = turns
+μ-loop input₀ line₀ values₀ lent₀ out₀ turns₀ at₀ name input line values lent out turns at = turns
 
 start-requires : tie.Need-start-requires Inv-loop μ-loop
 start-requires c κs = search needs
@@ -34,6 +34,9 @@ loop-less c = search needs
 
 loop-again : tie.Need-loop-again Inv-loop μ-loop
 loop-again c = search needs
+
+slice-aggregate-finish : tie.Need-slice-aggregate-finish Inv-loop μ-loop
+slice-aggregate-finish c = search needs
 
 finish-requires : tie.Need-finish-requires Inv-loop μ-loop
 finish-requires c κs = search needs
@@ -69,6 +72,7 @@ run-spec =
     sub-turns
     loop-less
     loop-again
+    slice-aggregate-finish
     finish-requires
     same-length
     same-length-2
