@@ -1,5 +1,9 @@
+pub mod Unlocking
 pub mod Lending
 pub mod Lying
 pub mod Meeting
 pub mod Asking
+pub mod Locals
+pub mod Behind
+pub mod Walking
 pub mod Tests

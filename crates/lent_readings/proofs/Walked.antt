@@ -50,7 +50,8 @@ use denote.Triple.Clauses.{Ended, AtExit, Clauses, ensured, closing, lasts}
 use denote.Triple.Call.{calls-at}
 use denote.Triple.Walked.{says, Stays, stay-slice, stay-none-slice, walkOf, goes-slice, goes-none-slice, Walks, ends-at, walked, walk-meets}
 use denote.Exit.{yes}
-use Rattle.lending.proofs.Lending.{listAt, Kept, lends-on, had-again}
+use Rattle.lending.proofs.Unlocking.{listAt}
+use Rattle.lending.proofs.Lending.{Kept, lends-on, had-again}
 use Rattle.lending.proofs.Asking.{Asks, Asked, asks}
 use Rattle.tables.specs.Table.{Table, tableOf}
 use Rattle.reading.specs.declared.Decoded.{Decoded}

@@ -1,3 +1,5 @@
+pub mod Held
+pub mod Still
 pub mod Moving
 pub mod Calls
 pub mod OneAnswer

@@ -46,7 +46,8 @@ use denote.Triple.Call.{calls-at}
 use denote.Triple.Table.{entered, cited}
 use denote.Triple.Walked.{says, Stays, stay-slice, stay-none-slice, walkOf, goes-slice, goes-none-slice, Walks, ends-at, walked, walk-meets}
 use denote.Exit.{yes}
-use Rattle.lending.proofs.Lending.{listAt, Kept, lends-on, had-again}
+use Rattle.lending.proofs.Unlocking.{listAt}
+use Rattle.lending.proofs.Lending.{Kept, lends-on, had-again}
 use Rattle.descriptor.specs.declared.PgnValue.{PgnValue}
 use Rattle.descriptor.specs.declared.PgnValue.the-variants.{U8}
 use Rattle.descriptor.proofs.PgnValue as Q
