@@ -51,8 +51,8 @@ extern "C" {
 #define SAMOPUTE_NO_ELEMENT UINT64_MAX
 
 /*
- * The refusals, with what each carries. 1 to 3 and 6 are those of the bit calls, 1 to 5, 7 to 9 and 15 those of
- * decode, 2, 3, 5, 7, 8, 10 to 13 and 15 those of encode. In decode and encode 1 to 3 carry the field first. 10 and 11
+ * The refusals, with what each carries. 1 to 3 and 6 are those of the bit calls, 2 to 5, 7 to 9 and 15 those of
+ * decode, 2, 3, 5, 7, 8, 10 to 13 and 15 those of encode. In decode and encode 2 and 3 carry the field first. 10 and 11
  * are those of samopute_raw_of too, where they carry nothing. 14 is of the programs: no call of this header answers it.
  */
 enum samopute_status {
