@@ -17,7 +17,7 @@ numberOf (WrongLength length) = 7
 numberOf (TableRefused rule index) = 8
 numberOf (NoRoom field) = 9
 
--- the numbers that a decode gives: "No refusal is given otherwise". Of the lower ones 1 and 6 are for bit calls alone
+-- the numbers that a decode can give: "No refusal is given otherwise". 1 would take a width that no accepted table has, 6 a payload that 7 refuses
 abbrev pub givenByDecode : ℕ → Bool
 givenByDecode n = eqb n 2 || eqb n 3 || eqb n 4 || eqb n 5 || eqb n 7 || eqb n 8 || eqb n 9
 

@@ -26,11 +26,6 @@ record Passed (w : ℕ) : Type 0 where
 passed : (w : ℕ) → 0 < simpleWidth w → Passed w
 passed w h = go (eqb (part w 24 3) 0) (eqb (w % 2 ^ 8) 0) (eqb (w % 2 ^ 8) 2) (leb (part w 8 16) 64) refl refl refl refl h
   where
-    kinds : (x y : Bool) → eqb (w % 2 ^ 8) 0 ≡ x → eqb (w % 2 ^ 8) 2 ≡ y → (x || y) ≡ true → (w % 2 ^ 8 ≡ 0) ⊎ (w % 2 ^ 8 ≡ 2)
-    kinds true y e f t = inl (eqb-true _ _ e)
-    kinds false true e f t = inr (eqb-true _ _ f)
-    kinds false false e f t = let z : _≡_ {A = ℕ} 0 1 = cc in absurd (omega arith)
-
     go : (a x y d : Bool) → eqb (part w 24 3) 0 ≡ a → eqb (w % 2 ^ 8) 0 ≡ x → eqb (w % 2 ^ 8) 2 ≡ y → leb (part w 8 16) 64 ≡ d
         → 0 < pick (a && ((x || y) && d)) (part w 8 16) 0 → Passed w
     go false x y d e f g k h = absurd (omega (arith, h))

@@ -104,8 +104,8 @@ fn simple_in(w: u64) -> u32
     0
 }
 
-// The width of field i if it is a Number or Lookup, not signed and not scaled, of 1 to 64 bits: most
-// fields are, and one look at their word is enough. Else 0.
+// The width of field i if it is a Number or Lookup, not signed and without a mark, of 1 to 64 bits:
+// many are, and one look at their word is enough. Else 0.
 pub fn simple_width(words: &[u64], i: usize) -> u32
     ensures { λ r. ⌜ r ≡ simpleWidth (getD (now (words .entry)) (1 + i) 0) ⌝ }
 {

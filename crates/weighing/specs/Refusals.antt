@@ -19,7 +19,8 @@ numberOf (WrongKind field) = 11
 numberOf (ValueCount field) = 12
 numberOf (TextTooLong field) = 13
 
--- the numbers that an encode gives: "No refusal is given otherwise". 1 and 6 are for bit calls alone, 4 and 9 for decode
+-- the numbers that an encode can give: "No refusal is given otherwise". 1 would take a width that no accepted table has, 6 a buffer that 7
+-- refuses; 4 and 9 are of decode
 abbrev pub givenByEncode : ℕ → Bool
 givenByEncode n = eqb n 2 || eqb n 3 || eqb n 5 || eqb n 7 || eqb n 8 || eqb n 10 || eqb n 11 || eqb n 12 || eqb n 13
 
