@@ -4,9 +4,9 @@
 //     scale KIND WIDTH SIGN MARK RESOLUTION RAW
 //     raw KIND WIDTH SIGN MARK RESOLUTION VALUEKIND VALUE
 //
-// KIND is a field's kind by its name. WIDTH is decimal. SIGN is u or s. MARK is '-', S or D, and
-// RESOLUTION '-' where MARK is, else the eight digits of a float's bits. RAW and VALUE are 64 bits in
-// at most 16 digits; VALUEKIND is U64 to U8, I64 to I8, F64, F32 or Bytes. Digits are capital
+// KIND is a field's kind by its name. WIDTH is decimal. SIGN is u or s. MARK is '-', S, D or 3, which is
+// no mark; RESOLUTION is the eight digits of a float's bits, or '-' beside a MARK '-'. RAW and VALUE are
+// 64 bits in at most 16 digits; VALUEKIND is U64 to U8, I64 to I8, F64, F32 or Bytes. Digits are capital
 // hexadecimal.
 //
 // Each line has one answer, on one line of standard output: to scale 'VALUEKIND VALUE' and A, or N

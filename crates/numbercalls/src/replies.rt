@@ -25,10 +25,10 @@ struct Field {
     resolution: u32,
 }
 
-// A float's bits in eight digits; none where the mark is that of an unscaled field.
+// A float's bits in eight digits; an unscaled field has none, and '-' in their place.
 fn resolution_of(s: &[u8], mark: u32) -> Code {
-    if mark == 0 {
-        return narrowed(check::same(s, b"-"), 0);
+    if mark == 0 && check::same(s, b"-") {
+        return narrowed(true, 0);
     }
     let bits = textio::hex(s);
     narrowed(bits.good && s.len() == 8, bits.value)
@@ -43,7 +43,7 @@ fn field_of(line: &[u8]) -> Field {
     let digits = textio::decimal(word(line, 2));
     let width = narrowed(digits.good, digits.value);
     let sign = place_of(word(line, 3), b"u s");
-    let mark = place_of(word(line, 4), b"- S D");
+    let mark = place_of(word(line, 4), b"- S D 3");
     let resolution = resolution_of(word(line, 5), mark.value);
     Field {
         good: kind.good & width.good & sign.good & mark.good & resolution.good,
