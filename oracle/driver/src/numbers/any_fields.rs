@@ -67,8 +67,8 @@ const WIDE: [u32; 25] = [
     u32::MAX,
 ];
 
-/// Marks: none, single, double, and those that are neither.
-const MARKS: [u32; 9] = [0, 1, 2, 3, 4, 5, 256, 257, u32::MAX];
+/// Marks that are neither single nor double and do not fit a word.
+const LARGE_MARKS: [u32; 5] = [4, 5, 256, 257, u32::MAX];
 
 /// What says that a field is signed.
 const SIGNS: [u32; 5] = [1, 1, 2, 256, 1 << 31];
@@ -102,14 +102,16 @@ pub struct Calls {
     pub values: Vec<Call>,
 }
 
-/// Fields of a kind's code: every width, sign and mark, each without resolution and with some.
+/// Fields of a kind's code: every width, sign and mark, each without resolution and with some. One that is
+/// unscaled stands for all resolutions, and comes as often as they do.
 pub fn fields(code: u32, amount: Amount, random: &mut Random) -> Vec<CField> {
     let mut all = Vec::new();
     for width in (0..=64).chain(WIDE) {
         for is_signed in [0, random.among(&SIGNS)] {
-            for mark in MARKS {
+            for mark in [0, 1, 2, 3, random.among(&LARGE_MARKS)] {
+                let bare = if mark == 0 { amount.inputs } else { 1 };
                 let some = (0..amount.inputs).map(|_| any_resolution(random));
-                let resolutions: Vec<u32> = [0].into_iter().chain(some).collect();
+                let resolutions: Vec<u32> = some.chain(vec![0; bare]).collect();
                 all.extend(resolutions.into_iter().map(|resolution| CField {
                     kind: code,
                     width,
