@@ -1,4 +1,5 @@
 pub mod Widths
+pub mod Numeric
 pub mod Limits
 pub mod Machine
 pub mod Beyond
