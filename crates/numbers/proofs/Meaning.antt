@@ -13,7 +13,6 @@ use borrow.Author.Tests.{leb-true, leb-false, le-leb}
 use Rattle.bits.specs.Bits.{pick}
 use Rattle.bits.proofs.Written.{below}
 use Rattle.numbers.specs.Signs.{meaningOf}
-use Rattle.numbers.specs.declared.Quantized.{Quantized}
 use Rattle.numbers.specs.declared.Quantized.the-variants.{Raw, OutOfRange}
 use Rattle.numbers.specs.Quantizing.{limitOf, complementOf, exactlyOf, nearlyOf, integerOf}
 use Rattle.numbers.proofs.Widths.{double, clear, set, some}
