@@ -1,19 +1,55 @@
--- The laws of slice calls: a written slice reads as its source, in bits and whole, and apart from it all stays.
+-- The laws of slice calls: a slice that was read is not cut; a written one reads as its source, in bits and whole, and apart from it all stays.
 -- Assumes nothing.
-use mathlib.Core.Path.{_≡_, sym, ap, ap₂, _∙_}
+use mathlib.Core.Path.{_≡_, refl, sym, ap, ap₂, _∙_, subst}
 use mathlib.Core.Logic.{_⊎_, inl, inr, ⊎-elim}
 use mathlib.Core.List.{List, _++_}
-use Prim.Native.Nat.{ℕ, _+_, _-_, _*_, _/_, _%_, _≤_, _<_}
+use Prim.Native.Nat.{ℕ, _+_, _-_, _*_, _/_, _%_, _^_, _≤_, _<_}
 use native.Mathlib.Omega.{arith}
 use lib.ListN.{length, getD, take, drop, List·getD-append, length-drop}
 use lib.Seq.{ext-getD, paste, length-paste, length-paste-head, getD-take, getD-drop, length-take-le, getD-append-add}
 use Rattle.bits.specs.Bits.{bit, bitsAt}
 use Rattle.bits.specs.declared.Cursor.{Cursor}
+use Rattle.bits.specs.declared.Part.{Part}
 use Rattle.bits.specs.declared.Room.{Room}
+use Rattle.bits.specs.declared.Room.the-variants as room
 use Rattle.bits.specs.declared.ReadSlice.the-variants as slice
-use Rattle.bits.specs.Calls.{bytes, place, movedBy, readSliceIn, readSliceOf, partOf, slicedIn, slicedOf}
+use Rattle.bits.specs.Calls.{bytes, place, movedBy, sliceRoomOf, readSliceIn, readSliceOf, partOf, slicedIn, slicedOf}
 use Rattle.bits.proofs.Sums.{sum-ext}
-use Rattle.bits.proofs.Rooms.{Whole, slice-fits}
+use Rattle.bits.proofs.Rooms.{Whole, whole, slice-fits}
+use Rattle.bits.proofs.Laws.{byte-read}
+
+-- ## Reading
+
+-- the n bytes of a buffer from a cursor on
+pub record Uncut (s : List ℕ) (c : Cursor) (n : ℕ) (l : List ℕ) : Type 0 where
+  pub long : length l ≡ n
+  pub each : (k : ℕ) → k < n → getD l k 0 ≡ getD s (place c / 8 + k) 0
+  -- which are the 8-bit reads there
+  pub reads : (k : ℕ) → k < n → getD l k 0 < 2 ^ 8 → bitsAt s (place c + 8 * k) 8 ≡ getD l k 0
+
+taken : (s : List ℕ) (c : Cursor) (n : ℕ) → Whole (length s) (place c) n → Uncut s c n (take n (drop (place c / 8) s))
+taken s c n w =
+    let a = place c / 8 in
+    let each : (k : ℕ) → k < n → getD (take n (drop a s)) k 0 ≡ getD s (a + k) 0 = λ k l. getD-take n (drop a s) k 0 l ∙ getD-drop a s k 0 in
+    record {
+      long = length-take-le n (drop a s) (omega (arith, length-drop a s, w .inside));
+      each = each;
+      reads = λ k l h.
+          let e : place c + 8 * k ≡ (a + k) * 8 = omega (arith, w .aligned) in
+          ap (λ (p : ℕ). bitsAt s p 8) e ∙ byte-read s (a + k) (subst (λ (x : ℕ). x < 2 ^ 8) (each k l) h) ∙ sym (each k l);
+    }
+
+-- of any buffer: what `Part::bytes` hands out of a part that `read_slice` gave is all of it
+pub slice-uncut : (s : List ℕ) (c : Cursor) (n : ℕ) (part : Part) (next : Cursor) → readSliceOf (length s) c n ≡ slice.Got part next → Uncut s c n (partOf s part)
+slice-uncut s c n part next h = go (sliceRoomOf (length s) (place c) n) refl h
+  where
+    go : (r : Room) → sliceRoomOf (length s) (place c) n ≡ r → readSliceIn r c n ≡ slice.Got part next → Uncut s c n (partOf s part)
+    go room.Fits q e =
+        let p : record { start = bytes (place c / 8); len = bytes n } ≡ part = cc in
+        subst (λ (x : Part). Uncut s c n (partOf s x)) p (taken s c n (whole _ _ _ q))
+    go (room.Refused x) q e = let z : _≡_ {A = ℕ} 0 1 = cc in absurd (omega arith)
+
+-- ## Writing
 
 -- src, written from byte a on
 module _ (s src : List ℕ) (a : ℕ) (inside : a + length src ≤ length s) where

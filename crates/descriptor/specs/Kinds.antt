@@ -1,8 +1,10 @@
 -- Kinds and resolutions by number.
 use Prim.Native.Nat.{ℕ}
 use mathlib.Core.List.{List, [], _∷_}
-use lib.Ieee.{Float, binary32, ofBits}
+use lib.Dec.{eqb}
+use lib.Ieee.{nan, binary32, ofBits}
 use lib.ListN.{getD}
+use Rattle.bits.specs.Bits.{pick}
 use Rattle.descriptor.specs.declared.FieldKind.{FieldKind}
 use Rattle.descriptor.specs.declared.FieldKind.the-variants.{Number, Float as Real, Lookup, IndirectLookup, BitLookup, Pgn, Date, Time, Duration, Mmsi, Decimal, StringFix, StringLz, StringLau, Binary, Reserved, Spare, IsoName, Unimplemented}
 use Rattle.descriptor.specs.declared.Resolution.{Resolution}
@@ -18,10 +20,14 @@ kinds =
 abbrev pub kindOf : ℕ → FieldKind
 kindOf code = getD kinds code Unimplemented
 
--- the resolutions of a factor by their marks, from 0 on
-abbrev pub marked : Float → List Resolution
-marked factor = Unscaled ∷ Single factor ∷ Double factor ∷ []
+-- a resolution that lacks its mark, or whose mark is broken: its factor is no number, and so is in no range
+abbrev pub broken : Resolution
+broken = Single nan
 
--- the resolution with a mark and a factor's bits; every other mark is that of an unscaled field
+-- without a mark: none, if its bits are all 0
+abbrev pub unmarkedOf : ℕ → Resolution
+unmarkedOf bits = pick (eqb bits 0) Unscaled broken
+
+-- the resolution with a mark and a factor's bits: "With it a mark, single or double"
 abbrev pub resolutionOf : ℕ → ℕ → Resolution
-resolutionOf mark bits = getD (marked (ofBits binary32 bits)) mark Unscaled
+resolutionOf mark bits = getD (unmarkedOf bits ∷ Single (ofBits binary32 bits) ∷ Double (ofBits binary32 bits) ∷ []) mark broken

@@ -1,6 +1,6 @@
 // Kinds and resolutions by number, for callers that have no enums.
 ghost use mathlib.Core.Path.{_≡_};
-ghost use Rattle.descriptor.specs.Kinds.{kindOf, resolutionOf};
+ghost use Rattle.descriptor.specs.Kinds.{kindOf, broken, unmarkedOf, resolutionOf};
 use crate::FieldKind;
 use crate::Resolution;
 
@@ -31,13 +31,31 @@ pub fn kind_of(code: u32) -> FieldKind
     }
 }
 
-// The resolution with this mark and these bits: 1 is single, 2 double, any other none.
+// A resolution whose factor is no number: the table check refuses it.
+fn broken_resolution() -> Resolution
+    ensures { λ r. ⌜ r ≡ broken ⌝ }
+{
+    Resolution::Single(rounding::f32_of_bits(0x7fc0_0000))
+}
+
+fn unmarked(bits: u32) -> Resolution
+    ensures { λ r. ⌜ r ≡ unmarkedOf bits ⌝ }
+{
+    if bits == 0 {
+        return Resolution::Unscaled;
+    }
+    broken_resolution()
+}
+
+// The resolution with this mark and these bits: 1 is single, 2 double, 0 with no bits none. Bits
+// without a mark, or with any other, were meant as a resolution, so they are not taken for none.
 pub fn resolution_of(mark: u32, bits: u32) -> Resolution
     ensures { λ r. ⌜ r ≡ resolutionOf mark bits ⌝ }
 {
     match mark {
+        0 => unmarked(bits),
         1 => Resolution::Single(rounding::f32_of_bits(bits)),
         2 => Resolution::Double(rounding::f32_of_bits(bits)),
-        _ => Resolution::Unscaled,
+        _ => broken_resolution(),
     }
 }

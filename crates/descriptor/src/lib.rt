@@ -3,7 +3,8 @@
 // numbers; `PgnBytes` is a place in the payload or in the lent text.
 //
 // There is no rule here: what a descriptor may hold is the table check's to say, and every value of
-// these types may be given to every call. Every number names a kind, and every mark a resolution.
+// these types may be given to every call. Every number names a kind, and every mark a resolution: one
+// that is broken names a resolution that the table check refuses.
 use bits::ByteCount;
 
 mod kinds;

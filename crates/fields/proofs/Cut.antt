@@ -40,7 +40,7 @@ binary w s h = go (eqb (w % 8) 0) refl s h
         let none : w ≡ 0 → ⊥ = λ z. let y : _≡_ {A = Bool} true false = sym (ap (λ (n : ℕ). eqb (n % 8) 0) z) ∙ e in let q : _≡_ {A = ℕ} 0 1 = cc in omega arith in
         (some w none, omega (arith, l))
 
-bits-width : (k : FieldKind) (w : ℕ) → inBits (shapeBy k w) ≡ true → widthFits (classOf k) w ≡ true → (1 ≤ w) × (w ≤ 64)
+pub bits-width : (k : FieldKind) (w : ℕ) → inBits (shapeBy k w) ≡ true → widthFits (classOf k) w ≡ true → (1 ≤ w) × (w ≤ 64)
 bits-width kind.BitLookup w s h = between 1 64 w h
 bits-width kind.Number w s h = between 1 64 w h
 bits-width kind.Lookup w s h = between 1 64 w h

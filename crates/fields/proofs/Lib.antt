@@ -4,5 +4,6 @@ pub mod Says
 pub mod Inside
 pub mod Filled
 pub mod Cut
+pub mod Numeric
 pub mod Given
 pub mod OneAnswer

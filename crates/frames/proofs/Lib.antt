@@ -1,6 +1,6 @@
 mod Counting
 mod Digits
-mod Exact
+pub mod Exact
 mod Feeding
 mod Room
 mod OneAnswer

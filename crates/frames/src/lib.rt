@@ -2,8 +2,9 @@
 // in, one frame a line, and lines of text go out.
 //
 // Promise: `feed` takes the bytes of a line as they come, in pieces of any length, and keeps of them
-// what specs/Digest.antt says; proofs/Exact.antt shows that this is, for every line under 2^64 bytes,
-// what specs/Lines.antt says a line is, and that the lent buffer holds the first of its payload bytes.
+// what specs/Digest.antt says; `pieces-read` of proofs/Exact.antt shows that this is, for every line
+// under 2^64 bytes, what specs/Lines.antt says a line is, and that the lent buffer holds the first of
+// its payload bytes.
 // So lines of any length are read right in the memory of one short frame. `frame_of` answers 14, 15 or
 // the message, as these definitions have it. A function that puts text asks for the room of one line
 // and says where its text ends; which text it is no contract says.

@@ -1,64 +1,147 @@
 -- Demands 2 and 3 for `decode`, by its contract as the source states it. Demand 2 is the contract: the run holds the readings that document 01's rules make of
 -- what was received. Assumes nothing.
-use mathlib.Core.Path.{_≡_, sym, ap, _∙_}
+use mathlib.Core.Path.{_≡_, sym, ap, _∙_, subst}
 use mathlib.Core.List.{List, _∷_, _++_}
-use Prim.Native.Nat.{ℕ, _≤_}
+use Prim.Native.Nat.{ℕ, _%_, _^_, _≤_}
 use lib.ListN.{length}
+use contract.Lifetimes.{Lfts}
 use denote.Ref.{now}
+use denote.Triple.Entry.{Args, Res}
+use denote.Triple.Clauses.{AtExit}
+use Rattle.bits.specs.Bits.{written}
 use Rattle.bits.specs.declared.BitPos.{BitPos}
 use Rattle.tables.specs.Table.{Table, tableOf}
+use Rattle.walking.specs.Runs.{Run}
+use Rattle.fields.specs.declared.DecodeRefusal.{DecodeRefusal}
 use Rattle.fields.specs.declared.DecodeRefusal.the-variants.{NoRoom}
+use Rattle.fields.specs.declared.Raw.the-variants as raw
 use Rattle.fields.specs.Payload.{payloadOf}
 use Rattle.reading.specs.declared.Span.{Span}
 use Rattle.reading.specs.declared.Progress.{Progress}
 use Rattle.reading.specs.declared.Reading.{Reading}
+use Rattle.reading.specs.declared.Decoded.{Decoded}
 use Rattle.reading.specs.declared.Decoded.the-variants as decoded
 use Rattle.reading.specs.Filling.{workingOf}
-use Rattle.reading.specs.Decode.{readings, decodedOf}
-use Rattle.reading.specs.Demand3.{Demand3, unskippedIn, roomEnough}
-use Rattle.reading.proofs.Answered.{answers, answered, reads, TwoRuns, enough-room}
+use Rattle.reading.specs.Decode.{walkOf, readings, spansOf, decodedOf, readingsOf}
+use Rattle.reading.specs.Demand3.{Demand3, Free, spanIn, unskippedIn, roomEnough}
+use Rattle.reading.proofs.Answered.{Decodes, answers, answered, reads, TwoRuns, two-runs, enough-room}
 use Rattle.reading.proofs.Demand3.{demand-3}
 use Rattle.lent_readings.specs.Run.{entriesOf}
 use Rattle.lent_readings.proofs.OneAnswer.{Decode}
+use Rattle.lent_readings.proofs.decode as decode
 
--- what a contract P says of each run that it allows
-abbrev Says : {K : Type 0} {A X S : K → Type 0} → ((κs : K) → A κs → X κs → S κs → Type 0) → ((κs : K) → A κs → X κs → S κs → Type 0) → Type 0
-Says {K} {A} {X} {S} P Q = (κs : K) (a : A κs) (x : X κs) (s : S κs) → P κs a x s → Q κs a x s
+-- ## A call
 
--- what was received, by a table, and the run `out` lent for its readings, which held `was`: it decodes, and demand 3 holds of the fields met
-pub record Decoding (t : Table) (received : List ℕ) (was out : List Reading) (end : BitPos) (n : ℕ) : Type 0 where
+-- a call that its contract allows
+pub record Call : Type 0 where
+  pub κs : Lfts 4
+  pub args : Args decode.signature κs
+  pub answer : Res decode.signature κs
+  pub exit : AtExit decode.ended κs
+  pub meets : Decode κs args answer exit
+
+module _ (c : Call) where
+  -- its table, what was received, the bytes of the padding run, and the run of readings before and after it
+  abbrev pub table : Table
+  table = tableOf (now (c .args .0))
+
+  abbrev pub received : List ℕ
+  received = now (c .args .1 .0)
+
+  abbrev pub padding : ℕ
+  padding = length (now (c .args .1 .1 .0))
+
+  abbrev pub was : List Reading
+  was = now (c .args .1 .1 .1 .0)
+
+  abbrev pub out : List Reading
+  out = now (c .exit .1 .1 .1 .0)
+
+-- ## One call
+
+-- it answered this end and count
+pub record Decoding (c : Call) (end : BitPos) (n : ℕ) : Type 0 where
   pub spans : List Span
   pub last : Progress
-  pub demand : Demand3 t (workingOf t) received (length was) spans last
+  pub demand : Demand3 (table c) (workingOf (table c)) (received c) (length (was c)) spans last
   -- the end and the count answered are theirs
-  pub ends : decoded.Ended (last .at) (unskippedIn t spans) ≡ decoded.Ended end n
+  pub ends : decoded.Ended (last .at) (unskippedIn (table c) spans) ≡ decoded.Ended end n
   -- the run holds their readings, and after them what it held
-  pub holds : out ≡ entriesOf (readings t (payloadOf (workingOf t received)) spans) was
+  pub holds : out c ≡ entriesOf (readings (table c) (payloadOf (workingOf (table c) (received c))) spans) (was c)
 
--- a call that answered an end
-pub decode-demand-3 : Says Decode (λ κs a x s. (end : BitPos) (n : ℕ) → x ≡ decoded.Ended end n → Decoding (tableOf (now (a .0))) (now (a .1 .0)) (now (a .1 .1 .1 .0)) (now (s .1 .1 .1 .0)) end n)
-decode-demand-3 κs a x s p end n e =
-    let t = tableOf (now (a .0)) in
-    let got = now (a .1 .0) in
-    let pad = length (now (a .1 .1 .0)) in
-    let room = length (now (a .1 .1 .1 .0)) in
-    let r = answered t got pad room end n (sym (p .0) ∙ e) in
+pub decode-demand-3 : (c : Call) (end : BitPos) (n : ℕ) → c .answer ≡ decoded.Ended end n → Decoding c end n
+decode-demand-3 c end n e =
+    let t = table c in
+    let p = c .meets in
+    let r = answered t (received c) (padding c) (length (was c)) end n (sym (p .0) ∙ e) in
     let d = r .2 in
     record {
       spans = r .0;
       last = r .1;
-      demand = demand-3 t got pad room (r .0) (r .1) (d .ready) (d .run);
-      ends = sym (answers t got pad room (r .0) (r .1) d) ∙ sym (p .0) ∙ e;
-      holds = p .1 .1 ∙ ap (λ (rs : List Reading). entriesOf rs (now (a .1 .1 .1 .0))) (reads t got pad room (r .0) (r .1) d);
+      demand = demand-3 t (received c) (padding c) (length (was c)) (r .0) (r .1) (d .ready) (d .run);
+      ends = sym (answers t (received c) (padding c) (length (was c)) (r .0) (r .1) d) ∙ sym (p .0) ∙ e;
+      holds = p .1 .1 ∙ ap (λ (rs : List Reading). entriesOf rs (was c)) (reads t (received c) (padding c) (length (was c)) (r .0) (r .1) d);
     }
 
--- "Change the bits of one number": a call over what was received before, `old`, with one number changed, answers as before, and its run holds the same
--- readings but one, whose raw is the new bits
-pub decode-changed : Says Decode (λ κs a x s. (old : List ℕ) (v : Span) (bits : ℕ)
-    → (k : TwoRuns (tableOf (now (a .0))) old (now (a .1 .0)) (length (now (a .1 .1 .0))) (length (now (a .1 .1 .1 .0))) v bits)
-    → (x ≡ decodedOf (tableOf (now (a .0))) old (length (now (a .1 .1 .0))) (length (now (a .1 .1 .1 .0)))) × (now (s .1 .1 .1 .0) ≡ entriesOf (k .before ++ k .new ∷ k .later) (now (a .1 .1 .1 .0))))
-decode-changed κs a x s p old v bits k = (p .0 ∙ k .answer, p .1 .1 ∙ ap (λ (rs : List Reading). entriesOf rs (now (a .1 .1 .1 .0))) (k .are))
-
 -- with room for 1,785 readings 9 is never answered
-pub decode-enough : Says Decode (λ κs a x s. roomEnough ≤ length (now (a .1 .1 .1 .0)) → (i n : ℕ) → x ≡ decoded.Refused (NoRoom i) n → ⊥)
-decode-enough κs a x s p l i n e = enough-room (tableOf (now (a .0))) (now (a .1 .0)) (now (a .1 .1 .0)) (length (now (a .1 .1 .1 .0))) l i n (sym (p .0) ∙ e)
+pub decode-enough : (c : Call) → roomEnough ≤ length (was c) → (i n : ℕ) → c .answer ≡ decoded.Refused (NoRoom i) n → ⊥
+decode-enough c l i n e = enough-room (table c) (received c) (now (c .args .1 .1 .0)) (length (was c)) l i n (sym (c .meets .0) ∙ e)
+
+-- ## Two calls
+
+-- "Change the bits of one number": two calls by one table, with padding runs and runs of readings as long as each other. The first met the span v, of a
+-- number that may be changed; the second received the same, but for the bits of x put there
+pub record Changes (c c′ : Call) (v : Span) (x : ℕ) : Type 0 where
+  pub same-table : table c′ ≡ table c
+  pub same-padding : padding c′ ≡ padding c
+  pub same-room : length (was c′) ≡ length (was c)
+  pub before : List Span
+  pub later : List Span
+  pub met : spansOf (walkOf (table c) (payloadOf (workingOf (table c) (received c))) (length (was c))) ≡ before ++ v ∷ later
+  pub free : Free (table c) (received c) v
+  pub put : received c′ ≡ written (received c) (v .start .0) (v .bits .0) x
+
+-- the second answers as the first, and its run holds the same readings but the one at v, whose raw is the new bits
+pub record Alike (c c′ : Call) (v : Span) (x : ℕ) : Type 0 where
+  pub answer : c′ .answer ≡ c .answer
+  pub before : List Reading
+  pub old : Reading
+  pub new : Reading
+  pub later : List Reading
+  pub held : out c ≡ entriesOf (before ++ old ∷ later) (was c)
+  pub holds : out c′ ≡ entriesOf (before ++ new ∷ later) (was c′)
+  pub stood : spanIn old ≡ v
+  pub stands : spanIn new ≡ v
+  pub raw : new .raw ≡ raw.Number (x % 2 ^ v .bits .0)
+
+-- whatever goes by a call's table, bytes received and the two lengths
+alike : {A : Type 0} (c c′ : Call) (v : Span) (x : ℕ) → Changes c c′ v x → (f : Table → List ℕ → ℕ → ℕ → A)
+    → f (table c′) (received c′) (padding c′) (length (was c′)) ≡ f (table c) (written (received c) (v .start .0) (v .bits .0) x) (padding c) (length (was c))
+alike c c′ v x k f =
+    ap (λ (t : Table). f t (received c′) (padding c′) (length (was c′))) (k .same-table)
+    ∙ ap (λ (l : List ℕ). f (table c) l (padding c′) (length (was c′))) (k .put)
+    ∙ ap (λ (n : ℕ). f (table c) (written (received c) (v .start .0) (v .bits .0) x) n (length (was c′))) (k .same-padding)
+    ∙ ap (λ (n : ℕ). f (table c) (written (received c) (v .start .0) (v .bits .0) x) (padding c) n) (k .same-room)
+
+pub decode-changed : (c c′ : Call) (end : BitPos) (n : ℕ) → c .answer ≡ decoded.Ended end n → (v : Span) (x : ℕ) → Changes c c′ v x → Alike c c′ v x
+decode-changed c c′ end n e v x k =
+    let t = table c in
+    let pad = padding c in
+    let room = length (was c) in
+    let r = answered t (received c) pad room end n (sym (c .meets .0) ∙ e) in
+    let d = r .2 in
+    let vs : r .0 ≡ k .before ++ v ∷ k .later = sym (ap (λ (w : Run Span Progress DecodeRefusal). spansOf w) (d .run)) ∙ k .met in
+    let d′ = subst (λ (us : List Span). Decodes t (received c) pad room us (r .1)) vs d in
+    let two = two-runs t (received c) pad room (k .before) v (k .later) (r .1) d′ (k .free) x in
+    record {
+      answer = c′ .meets .0 ∙ alike c c′ v x k decodedOf ∙ two .answer ∙ sym (c .meets .0);
+      before = two .before;
+      old = two .old;
+      new = two .new;
+      later = two .later;
+      held = c .meets .1 .1 ∙ ap (λ (rs : List Reading). entriesOf rs (was c)) (two .were);
+      holds = c′ .meets .1 .1 ∙ ap (λ (rs : List Reading). entriesOf rs (was c′)) (alike c c′ v x k readingsOf ∙ two .are);
+      stood = two .stood;
+      stands = two .stands;
+      raw = two .raw;
+    }

@@ -4,13 +4,13 @@
 //     scale KIND WIDTH SIGN MARK RESOLUTION RAW
 //     raw KIND WIDTH SIGN MARK RESOLUTION VALUEKIND VALUE
 //
-// KIND is a field's kind by its name. WIDTH is decimal. SIGN is u or s. MARK is '-', S, D or 3, which is
-// no mark; RESOLUTION is the eight digits of a float's bits, or '-' beside a MARK '-'. RAW and VALUE are
-// 64 bits in at most 16 digits; VALUEKIND is U64 to U8, I64 to I8, F64, F32 or Bytes. Digits are capital
-// hexadecimal.
+// KIND is a field's kind by its name, or by any code in decimal. WIDTH is decimal. SIGN is u or s. MARK
+// is '-', S, D or any number in decimal, and RESOLUTION the eight digits of a float's bits, or '-' for
+// none where MARK is '-'. RAW and VALUE are 64 bits in at most 16 digits; VALUEKIND is U64 to U8, I64
+// to I8, F64, F32 or Bytes. Digits are capital hexadecimal.
 //
 // Each line has one answer, on one line of standard output: to scale 'VALUEKIND VALUE' and A, or N
-// where the raw says nothing; to raw 'ok RAW' or 'F NUMBER'.
+// where the raw says nothing; to raw 'ok RAW'; or 'F NUMBER' and what the refusal carries.
 //
 // Promise: as that of `textio`. A line that is no call, or is over 1,024 bytes, is answered F 14. The
 // last line may lack its newline. The calls are those that C and Rust make.

@@ -2,6 +2,7 @@
 ghost use Prim.Native.Nat.{_+_, _≤_};
 ghost use lib.ListN.{length};
 use crate::words::Code;
+use crate::words::named;
 use crate::words::narrowed;
 use crate::words::place_of;
 use crate::words::spaces;
@@ -25,10 +26,10 @@ struct Field {
     resolution: u32,
 }
 
-// A float's bits in eight digits; an unscaled field has none, and '-' in their place.
+// A float's bits in eight digits; without a mark, '-' says that there are none.
 fn resolution_of(s: &[u8], mark: u32) -> Code {
-    if mark == 0 && check::same(s, b"-") {
-        return narrowed(true, 0);
+    if check::same(s, b"-") {
+        return narrowed(mark == 0, 0);
     }
     let bits = textio::hex(s);
     narrowed(bits.good && s.len() == 8, bits.value)
@@ -36,14 +37,14 @@ fn resolution_of(s: &[u8], mark: u32) -> Code {
 
 // The words from place 1 to 5.
 fn field_of(line: &[u8]) -> Field {
-    let kind = place_of(
+    let kind = named(
         word(line, 1),
         b"Number Float Lookup IndirectLookup BitLookup Pgn Date Time Duration Mmsi Decimal StringFix StringLz StringLau Binary Reserved Spare IsoName Unimplemented",
     );
     let digits = textio::decimal(word(line, 2));
     let width = narrowed(digits.good, digits.value);
     let sign = place_of(word(line, 3), b"u s");
-    let mark = place_of(word(line, 4), b"- S D 3");
+    let mark = named(word(line, 4), b"- S D");
     let resolution = resolution_of(word(line, 5), mark.value);
     Field {
         good: kind.good & width.good & sign.good & mark.good & resolution.good,
@@ -73,13 +74,27 @@ pub(crate) fn answer_line(line: &[u8], out: &mut [u8], at: usize) -> usize
 }
 
 // The kind of a value by its code, which is 1 to 11, with its 64 bits.
-fn put_typed(out: &mut [u8], at: usize, code: u32, bits: u64) -> usize
+fn put_typed(out: &mut [u8], at: usize, code: u64, bits: u64) -> usize
     requires { ⌜ at + 80 ≤ length (now out) ⌝ }
     ensures { λ r. ⌜ r ≤ at + 80 ⌝ }
 {
     let name = word(&VALUE_KINDS, code as usize);
     let to = put_text(out, at, name);
     put_value(out, to, bits)
+}
+
+// A refusal with the two numbers of 1; 10 and 11 carry nothing here.
+fn put_refused(out: &mut [u8], at: usize, status: u32, first: u64, second: u64) -> usize
+    requires { ⌜ at + 100 ≤ length (now out) ⌝ }
+    ensures { λ r. ⌜ r ≤ at + 100 ⌝ }
+{
+    let to = put(out, at, b'F');
+    let end = put_number(out, to, status as usize);
+    if status != 1 {
+        return end;
+    }
+    let next = put_number(out, end, first as usize);
+    put_number(out, next, second as usize)
 }
 
 fn scale(f: Field, digits: &[u8], out: &mut [u8], at: usize) -> usize
@@ -90,8 +105,8 @@ fn scale(f: Field, digits: &[u8], out: &mut [u8], at: usize) -> usize
     if !raw.good {
         return put_malformed(out, at);
     }
-    let mut answer = [0u64; 3];
-    let code = samopute_c::samopute_scale(
+    let mut answer = [0u64; 4];
+    let status = samopute_c::samopute_scale(
         f.kind,
         f.width,
         f.sign,
@@ -100,9 +115,12 @@ fn scale(f: Field, digits: &[u8], out: &mut [u8], at: usize) -> usize
         raw.value,
         &mut answer,
     );
-    let to = put_typed(out, at, code, answer[0]);
+    if status != 0 {
+        return put_refused(out, at, status, answer[0], answer[1]);
+    }
+    let to = put_typed(out, at, answer[0], answer[1]);
     let end = put(out, to, b' ');
-    if answer[1] == 0 {
+    if answer[2] == 0 {
         return put(out, end, b'A');
     }
     put(out, end, b'N')
@@ -132,6 +150,5 @@ fn raw_of(f: Field, kind: &[u8], digits: &[u8], out: &mut [u8], at: usize) -> us
         let to = put_text(out, at, b"ok");
         return put_value(out, to, answer[0]);
     }
-    let to = put(out, at, b'F');
-    put_number(out, to, status as usize)
+    put_refused(out, at, status, answer[0], answer[1])
 }

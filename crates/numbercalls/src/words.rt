@@ -63,6 +63,16 @@ pub(crate) fn place_of(name: &[u8], words: &[u8]) -> Code {
     }
 }
 
+// The place of a name among words, or the number that it is in decimal.
+pub(crate) fn named(name: &[u8], words: &[u8]) -> Code {
+    let place = place_of(name, words);
+    if place.good {
+        return place;
+    }
+    let digits = textio::decimal(name);
+    narrowed(digits.good, digits.value)
+}
+
 // A number that is to fit 32 bits.
 pub(crate) fn narrowed(good: bool, value: u64) -> Code {
     if value <= 0xffff_ffff {

@@ -1,5 +1,7 @@
 pub mod Widths
+pub mod Numeric
 pub mod Limits
+pub mod Meaning
 pub mod Machine
 pub mod Beyond
 pub mod OneAnswer

@@ -17,11 +17,14 @@ use Rattle.numbers.specs.declared.AsU64.the-variants as u64
 use Rattle.numbers.specs.declared.Quantized.{Quantized}
 use Rattle.numbers.specs.declared.Quantized.the-variants as quantized
 use Rattle.numbers.specs.declared.RawOf.{RawOf}
-use Rattle.numbers.specs.declared.RawOf.the-variants.{Raw, OutOfRange, WrongKind}
+use Rattle.numbers.specs.declared.RawOf.the-variants.{Raw, BadWidth, OutOfRange, WrongKind}
+use Rattle.numbers.specs.declared.Holds.{Holds}
+use Rattle.numbers.specs.declared.Holds.the-variants as holds
 use Rattle.numbers.specs.declared.ScaleRule.{ScaleRule}
 use Rattle.numbers.specs.declared.ScaleRule.the-variants.{Plain, Counted, Lasting, Clock, Real, Flags}
 use Rattle.numbers.specs.Scaling.{ruleOf, bitsOf}
-use Rattle.numbers.specs.Quantizing.{quantizeOf, integerOf}
+use Rattle.numbers.specs.Holds.{holdsOf}
+use Rattle.numbers.specs.Quantizing.{quotientOf, integerOf}
 
 -- "A scaled field takes floats and signed integers only"
 abbrev pub toF64Of : PgnValue → AsF64
@@ -64,14 +67,15 @@ toU64Of (F64 x) = u64.Mismatch
 toU64Of (F32 x) = u64.Mismatch
 toU64Of (Bytes b) = u64.Mismatch
 
--- a raw, or 10
+-- a raw, 1 or 10
 abbrev pub rangedOf : Quantized → RawOf
 rangedOf (quantized.Raw raw) = Raw raw
+rangedOf (quantized.BadWidth width) = BadWidth width
 rangedOf quantized.OutOfRange = OutOfRange
 
 -- "a value of another kind answers 11"
 abbrev pub scaledRawOf : AsF64 → Float → ℕ → Bool → RawOf
-scaledRawOf (f64.Got x) r n signed = rangedOf (quantizeOf x r n signed)
+scaledRawOf (f64.Got x) r n signed = rangedOf (quotientOf x r n signed)
 scaledRawOf f64.Mismatch r n signed = WrongKind
 
 abbrev pub signedRawOf : AsI64 → ℕ → RawOf
@@ -116,6 +120,16 @@ numberOf Clock r n signed v = resolvedOf r n false v (wholeRawOf n false v)
 numberOf Real r n signed v = floatRawOf v
 numberOf Flags r n signed v = wholeRawOf n false v
 
--- the raw of a value in a number field
+-- the raw of a value in a field that holds a number
+abbrev pub heldRawOf : FieldDescriptor → PgnValue → RawOf
+heldRawOf f v = numberOf (ruleOf (f .kind)) (f .resolution) (bitsOf f) (f .signed) v
+
+-- in a field that holds none, every number is "a value of another kind"
+abbrev pub ifHeld : Holds → RawOf → RawOf
+ifHeld holds.Number raw = raw
+ifHeld holds.NoNumber raw = WrongKind
+ifHeld (holds.BadWidth width) raw = BadWidth width
+
+-- `number_to_raw`: the raw of a value in a field
 abbrev pub rawOf : FieldDescriptor → PgnValue → RawOf
-rawOf f v = numberOf (ruleOf (f .kind)) (f .resolution) (bitsOf f) (f .signed) v
+rawOf f v = ifHeld (holdsOf f) (heldRawOf f v)

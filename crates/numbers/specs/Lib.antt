@@ -1,7 +1,9 @@
 pub mod Signs
+pub mod Holds
 pub mod Scaling
 pub mod Special
 pub mod Quantizing
 pub mod Conversions
+pub mod Refusals
 pub mod Words
 pub mod Held

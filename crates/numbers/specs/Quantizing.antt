@@ -7,8 +7,9 @@ use lib.Ieee.{Float, nan, inf, fin, binary64, div, up, down}
 use Rattle.bits.specs.Bits.{pick}
 use Rattle.rounding.specs.Truncation.{halfAwayOf}
 use Rattle.numbers.specs.Special.{topOf}
+use Rattle.numbers.specs.Holds.{isWidth}
 use Rattle.numbers.specs.declared.Quantized.{Quantized}
-use Rattle.numbers.specs.declared.Quantized.the-variants.{Raw, OutOfRange}
+use Rattle.numbers.specs.declared.Quantized.the-variants.{Raw, BadWidth, OutOfRange}
 
 -- the limits of n bits, as the largest magnitude at or above zero and below it
 abbrev pub limitOf : ℕ → Bool → Bool → ℕ
@@ -46,9 +47,13 @@ roundedOf n signed nan = OutOfRange
 roundedOf n signed (inf s) = OutOfRange
 roundedOf n signed (fin s m e) = cutOf n signed (halfAwayOf (fin s m e))
 
--- "the f64 quotient value / resolution"
+-- "the f64 quotient value / resolution", into n bits
+abbrev pub quotientOf : Float → Float → ℕ → Bool → Quantized
+quotientOf value resolution n signed = roundedOf n signed (div binary64 value resolution)
+
+-- `quantize`: 1 where n is no width
 abbrev pub quantizeOf : Float → Float → ℕ → Bool → Quantized
-quantizeOf value resolution n signed = roundedOf n signed (div binary64 value resolution)
+quantizeOf value resolution n signed = pick (isWidth n) (quotientOf value resolution n signed) (BadWidth n)
 
 -- an integer for an unscaled field of n bits
 abbrev pub integerOf : ℕ → Bool → ℤ → Quantized

@@ -3,13 +3,15 @@ ghost use mathlib.Core.Path.{_≡_};
 ghost use Prim.Native.Nat.{_≤_};
 ghost use lib.Ieee as Ieee;
 ghost use lib.Ieee.{binary32, binary64};
-ghost use Rattle.numbers.specs.Conversions.{toF64Of, toI64Of, toU64Of, rangedOf, scaledRawOf, signedRawOf, unsignedRawOf, floatRawOf, wholeRawOf, resolvedOf, numberOf, rawOf};
+ghost use Rattle.numbers.specs.Conversions.{toF64Of, toI64Of, toU64Of, rangedOf, scaledRawOf, signedRawOf, unsignedRawOf, floatRawOf, wholeRawOf, resolvedOf, numberOf, heldRawOf, rawOf};
 use crate::AsF64;
 use crate::AsI64;
 use crate::AsU64;
+use crate::Holds;
 use crate::Quantized;
 use crate::RawOf;
 use crate::ScaleRule;
+use crate::holding::holds_number;
 use crate::quantizing;
 use crate::scale::rule_of;
 use crate::scale::widen;
@@ -75,13 +77,14 @@ pub fn pgn_value_to_u64(value: PgnValue) -> AsU64
     }
 }
 
-fn ranged(q: Quantized) -> RawOf
+pub(crate) fn ranged(q: Quantized) -> RawOf
     ensures { λ r. ⌜ r ≡ rangedOf q ⌝ }
 {
-    let Quantized::Raw(raw) = q else {
-        return RawOf::OutOfRange;
-    };
-    RawOf::Raw(raw)
+    match q {
+        Quantized::Raw(raw) => RawOf::Raw(raw),
+        Quantized::BadWidth(width) => RawOf::BadWidth(width),
+        Quantized::OutOfRange => RawOf::OutOfRange,
+    }
 }
 
 // A scaled field of n bits.
@@ -92,7 +95,7 @@ fn scaled(resolution: f32, n: u32, signed: bool, value: PgnValue) -> RawOf
     let AsF64::Got(x) = pgn_value_to_f64(value) else {
         return RawOf::WrongKind;
     };
-    ranged(quantizing::quantize(x, resolution, n, signed))
+    ranged(quantizing::quotient(x, resolution, n, signed))
 }
 
 // An unscaled field of n bits.
@@ -145,9 +148,9 @@ fn resolved(
     }
 }
 
-// The raw of a value in a number field.
-pub fn number_to_raw(f: FieldDescriptor, value: PgnValue) -> RawOf
-    ensures { λ r. ⌜ r ≡ rawOf f value ⌝ }
+// The raw of a value in a field that holds a number.
+fn held_raw(f: FieldDescriptor, value: PgnValue) -> RawOf
+    ensures { λ r. ⌜ r ≡ heldRawOf f value ⌝ }
 {
     let n = signs::least(f.width, 64);
     let kind = f.kind;
@@ -160,5 +163,17 @@ pub fn number_to_raw(f: FieldDescriptor, value: PgnValue) -> RawOf
         ScaleRule::Clock => resolved(resolution, n, false, false, value),
         ScaleRule::Real => float(value),
         ScaleRule::Flags => whole(n, false, value),
+    }
+}
+
+// The raw of a value in a field: 11 where the field holds no number, 1 where its width is none; then
+// 11 or 10 by the value.
+pub fn number_to_raw(f: FieldDescriptor, value: PgnValue) -> RawOf
+    ensures { λ r. ⌜ r ≡ rawOf f value ⌝ }
+{
+    match holds_number(f) {
+        Holds::Number => held_raw(f, value),
+        Holds::NoNumber => RawOf::WrongKind,
+        Holds::BadWidth(width) => RawOf::BadWidth(width),
     }
 }

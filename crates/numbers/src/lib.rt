@@ -1,10 +1,13 @@
 // Raw numbers and the values that they stand for: document 01, "Raw numbers and floats".
 //
 // Promise: every call takes any raw, value and descriptor and gives the one answer that specs/ says;
-// a value that does not fit gets refusal 10, one of another kind 11. No call has a `requires`. A
-// float is a value of IEEE 754 as the logic has it, with one NaN; nothing else is assumed.
+// a value that does not fit gets refusal 10, one of another kind 11, and a width that no number has 1.
+// No call has a `requires`. A float is a value of IEEE 754 as the logic has it, with one NaN; nothing
+// else is assumed.
 mod conversions;
+mod holding;
 mod quantizing;
+mod refusals;
 mod scale;
 mod signs;
 mod special;
@@ -14,6 +17,7 @@ pub use crate::conversions::number_to_raw;
 pub use crate::conversions::pgn_value_to_f64;
 pub use crate::conversions::pgn_value_to_i64;
 pub use crate::conversions::pgn_value_to_u64;
+pub use crate::holding::holds_number;
 pub use crate::quantizing::quantize;
 pub use crate::scale::scale_raw_field;
 pub use crate::signs::sign_extend;
@@ -48,9 +52,20 @@ pub struct NumberWords {
     pub silence: u64,
 }
 
-// The answer of `quantize`.
+// Whether a field holds a number.
+pub enum Holds {
+    Number,
+    // 11: text, bytes, bits that are skipped, or a kind that document 01 does not have.
+    NoNumber,
+    // 1: this width, of 0 bits or over 64.
+    BadWidth(u32),
+}
+
+// The answer of `quantize`. `number` gives document 01's number, `carried` what it carries.
 pub enum Quantized {
     Raw(u64),
+    // 1
+    BadWidth(u32),
     // 10
     OutOfRange,
 }
@@ -71,9 +86,11 @@ pub enum AsU64 {
     Mismatch,
 }
 
-// The answer of `number_to_raw`.
+// The answer of `number_to_raw`. `number` gives document 01's number, `carried` what it carries.
 pub enum RawOf {
     Raw(u64),
+    // 1
+    BadWidth(u32),
     // 10
     OutOfRange,
     // 11

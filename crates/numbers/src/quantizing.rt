@@ -1,14 +1,14 @@
 // From a value to a raw: the f64 quotient, a half away from zero, the cut, the limits.
 ghost use mathlib.Core.Path.{_≡_};
 ghost use mathlib.Core.Bool.{true, false};
-ghost use Prim.Native.Nat.{_-_, _^_, _≤_, min};
+ghost use Prim.Native.Nat.{_-_, _^_, _≤_};
 ghost use lib.Ieee.Scale.{finite};
 ghost use Rattle.rounding.specs.Truncation.{truncatedOf};
 ghost use Rattle.rounding.specs.declared.Whole.the-variants as whole;
-ghost use Rattle.numbers.specs.Quantizing.{limitOf, complementOf, exactlyOf, nearlyOf, cutOf, quantizeOf, integerOf};
+ghost use Rattle.numbers.specs.Quantizing.{limitOf, complementOf, exactlyOf, nearlyOf, cutOf, quotientOf, quantizeOf, integerOf};
 use crate::Quantized;
+use crate::holding::is_width;
 use crate::scale::widen;
-use crate::signs;
 use crate::special::one_less;
 use crate::special::ones;
 use crate::special::top_of;
@@ -115,16 +115,26 @@ fn is_finite(q: f64) -> bool
     false
 }
 
-// The raw of a value in a scaled field of so many bits, at most 64.
-pub fn quantize(value: f64, resolution: f32, bits: u32, signed: bool) -> Quantized
-    ensures { λ r. ⌜ r ≡ quantizeOf value resolution (min bits 64) signed ⌝ }
+// The raw of a value in a scaled field of n bits.
+pub(crate) fn quotient(value: f64, resolution: f32, n: u32, signed: bool) -> Quantized
+    requires { ⌜ n ≤ 64 ⌝ }
+    ensures { λ r. ⌜ r ≡ quotientOf value resolution n signed ⌝ }
 {
-    let n = signs::least(bits, 64);
     let q = value / widen(resolution);
     if is_finite(q) {
         return cut(n, signed, rounding::half_away(q));
     }
     Quantized::OutOfRange
+}
+
+// The raw of a value in a scaled field of so many bits: 1 to 64, else 1.
+pub fn quantize(value: f64, resolution: f32, bits: u32, signed: bool) -> Quantized
+    ensures { λ r. ⌜ r ≡ quantizeOf value resolution bits signed ⌝ }
+{
+    if is_width(bits) {
+        return quotient(value, resolution, bits, signed);
+    }
+    Quantized::BadWidth(bits)
 }
 
 // The raw of an integer in an unscaled signed field of n bits.

@@ -37,7 +37,7 @@ use Rattle.reading.specs.declared.Answer.the-variants as answer
 use Rattle.reading.specs.Filling.{workingOf, preparedOf}
 use Rattle.reading.specs.Decode.{walkOf, readingOf, readings, spansOf, endOf, decodedIn, decodedOf, readInto, readingsOf}
 use Rattle.reading.specs.Steps.{startOf, nextOf, handedIn}
-use Rattle.reading.specs.Demand3.{unskippedIn, Free, roomEnough}
+use Rattle.reading.specs.Demand3.{unskippedIn, Free, spanIn, roomEnough}
 use Rattle.reading.proofs.Working.{readied, working-le}
 use Rattle.reading.proofs.Looped.{Going, turned, handed-out}
 use Rattle.reading.proofs.Roomy.{count-unskipped, never-full, never-prepared}
@@ -89,8 +89,8 @@ number-fits p i early w at n sh strict q e = go strict (roomAt p at w) refl (ap 
     go true (room.Refused x) h g = let z : _≡_ {A = ℕ} 0 1 = cc in absurd (omega arith)
     go false (room.Refused x) h g = let z : _≡_ {A = ℕ} 0 1 = cc in absurd (omega arith)
 
--- over what was received, and over it with one number changed to the bits of x: `for_each_field` answers the same end and count, and
--- `next_field` hands out the same readings but one, which has the same field, element, start and bits, and x's bits as its raw
+-- over what was received, and over it with one number, at v, changed to the bits of x: `for_each_field` answers the same end and count, and
+-- `next_field` hands out the same readings but the one at v, which stands there still and has x's bits as its raw
 pub record TwoRuns (t : Table) (received received′ : List ℕ) (padded room : ℕ) (v : Span) (x : ℕ) : Type 0 where
   -- the change is what a write of x into the span leaves, which the bit call accepts
   pub call : writtenOf received (cursorAt (v .start .0)) (v .bits .0) widthMax x ≡ received′
@@ -103,7 +103,8 @@ pub record TwoRuns (t : Table) (received received′ : List ℕ) (padded room : 
   pub are : readingsOf t received′ padded room ≡ before ++ new ∷ later
   pub handed : (turns : ℕ) → t .count * 20000 < turns → handedIn t (payloadOf (workingOf t received)) room turns startOf ≡ before ++ old ∷ later
   pub handed′ : (turns : ℕ) → t .count * 20000 < turns → handedIn t (payloadOf (workingOf t received′)) room turns startOf ≡ before ++ new ∷ later
-  pub place : (new .field ≡ old .field) × (new .element ≡ old .element) × (new .start ≡ old .start) × (new .bits ≡ old .bits)
+  pub stood : spanIn old ≡ v
+  pub stands : spanIn new ≡ v
   pub raw : new .raw ≡ raw.Number (x % 2 ^ v .bits .0)
 
 pub two-runs : (t : Table) (received : List ℕ) (padded room : ℕ) (us : List Span) (v : Span) (ws : List Span) (s : Progress)
@@ -133,7 +134,8 @@ two-runs t received padded room us v ws s d free x =
       are = b;
       handed = λ turns l. handed-out t received padded room turns (d .ready) l ∙ a;
       handed′ = λ turns l. handed-out t received′ padded room turns ready l ∙ b;
-      place = (refl, refl, refl, refl);
+      stood = refl;
+      stands = refl;
       raw = k .new;
     }
 

@@ -32,6 +32,8 @@ use Rattle.reading.specs.declared.Answer.the-variants.{Met, Skipped, Mov
 use Rattle.reading.specs.declared.Next.{Next}
 use Rattle.reading.specs.declared.Decoded.{Decoded}
 use Rattle.reading.specs.declared.Decoded.the-variants as decoded
+use Rattle.reading.specs.declared.Came.{Came}
+use Rattle.reading.specs.declared.Came.the-variants as came
 use Rattle.fields.specs.Payload.{Payload, payloadOf}
 use Rattle.fields.specs.Shapes.{shapeOf}
 use Rattle.fields.specs.Content.{fieldReadOf}
@@ -40,7 +42,7 @@ use Rattle.reading.specs.declared.Prepared.the-variants.{Ready}
 use Rattle.reading.specs.Filling.{workingOf, preparedOf}
 use Rattle.reading.specs.Groups.{notedBy, tooMany}
 use Rattle.reading.specs.Decode.{spanAt, progressAt, settled, oneOf, countOf, beginning, walkOf, readingOf, withReading, readings, spansOf, endOf, readInto, readingsOf}
-use Rattle.reading.specs.Steps.{metBy, metOf, shown, turnOf, nextOf, startOf, goesOn, decodedBy, decodedAt, handed, handedIn}
+use Rattle.reading.specs.Steps.{metBy, metOf, shown, turnOf, nextOf, startOf, goesOn, cameBy, cameTo, handed, handedIn}
 use Rattle.reading.proofs.Told.{told, gone}
 use Rattle.reading.proofs.Working.{readied}
 
@@ -50,6 +52,24 @@ small t ok i k e =
     let p = placed t ok k (starts-one t i k e) in
     let s = sizes t ok in
     (omega (arith, p .inside, s .fields), p .most)
+
+-- ## What a turn came to
+
+-- the walk goes on where it came to no answer ..
+pub came-on : (a : Answer) (s : Progress) → cameBy a s ≡ came.On → goesOn a ≡ true
+came-on (Met r) s h = refl
+came-on (Skipped v) s h = refl
+came-on Moved s h = refl
+came-on Ended s h = let y : _≡_ {A = ℕ} 0 1 = cc in absurd (omega arith)
+came-on (Refused f) s h = let y : _≡_ {A = ℕ} 0 1 = cc in absurd (omega arith)
+
+-- .. and nowhere else
+pub came-last : (a : Answer) (s : Progress) (d : Decoded) → cameBy a s ≡ came.To d → goesOn a ≡ false
+came-last (Met r) s d h = let y : _≡_ {A = ℕ} 0 1 = cc in absurd (omega arith)
+came-last (Skipped v) s d h = let y : _≡_ {A = ℕ} 0 1 = cc in absurd (omega arith)
+came-last Moved s d h = let y : _≡_ {A = ℕ} 0 1 = cc in absurd (omega arith)
+came-last Ended s d h = refl
+came-last (Refused f) s d h = refl
 
 -- ## The readings' count
 
@@ -245,16 +265,16 @@ module _ (t : Table) (p : Payload) (room : ℕ) where
         (falls t one count tooMany (small t ok) (w .spot) (w .progress) (g .bounded))
         (meets t one count tooMany Makes makes (w .spot) (w .progress))
 
-    -- a turn that does not go on says what decoding comes to
-    pub comes-to : (w : Walk) (g : Going w) (n : Next) → Turned w g n → goesOn (n .answer) ≡ false → whole ≡ decodedAt n
-    comes-to w g n u o = go (n .answer) refl
+    -- where a turn came to an answer, that is what decoding comes to
+    pub comes-to : (w : Walk) (g : Going w) (n : Next) → Turned w g n → (d : Decoded) → cameTo n ≡ came.To d → whole ≡ d
+    comes-to w g n u d h = go (n .answer) refl h
       where
-        go : (a : Answer) → n .answer ≡ a → whole ≡ decodedAt n
-        go (Met r) e = let z : _≡_ {A = Bool} true false = sym (ap goesOn e) ∙ o in let y : _≡_ {A = ℕ} 0 1 = cc in absurd (omega arith)
-        go (Skipped v) e = let z : _≡_ {A = Bool} true false = sym (ap goesOn e) ∙ o in let y : _≡_ {A = ℕ} 0 1 = cc in absurd (omega arith)
-        go Moved e = let z : _≡_ {A = Bool} true false = sym (ap goesOn e) ∙ o in let y : _≡_ {A = ℕ} 0 1 = cc in absurd (omega arith)
-        go Ended e = u .ends e ∙ sym (ap (λ (x : Answer). decodedBy x (n .walk .progress)) e)
-        go (Refused f) e = u .stops f e ∙ sym (ap (λ (x : Answer). decodedBy x (n .walk .progress)) e)
+        go : (a : Answer) → n .answer ≡ a → cameBy a (n .walk .progress) ≡ came.To d → whole ≡ d
+        go (Met r) e k = let y : _≡_ {A = ℕ} 0 1 = cc in absurd (omega arith)
+        go (Skipped v) e k = let y : _≡_ {A = ℕ} 0 1 = cc in absurd (omega arith)
+        go Moved e k = let y : _≡_ {A = ℕ} 0 1 = cc in absurd (omega arith)
+        go Ended e k = let y : decoded.Ended (n .walk .progress .at) (n .walk .progress .made) ≡ d = cc in u .ends e ∙ y
+        go (Refused f) e k = let y : decoded.Refused f (n .walk .progress .made) ≡ d = cc in u .stops f e ∙ y
 
     -- what was handed out and what the turns still hand out are all the readings
     handed-rest : (n : ℕ) (w : Walk) (g : Going w) → heft w < n → readings t p (g .done) ++ handedIn t p room n w ≡ all

@@ -8,8 +8,7 @@ use Rattle.reading.proofs.groups.counter_at.Reads as counter-at
 use Rattle.reading.proofs.filling.is_filled.Reads as is-filled
 use Rattle.reading.proofs.turns.start.Reads as start
 use Rattle.reading.proofs.turns.next_field.Reads as next-field
-use Rattle.reading.proofs.turns.goes_on.Reads as goes-on
-use Rattle.reading.proofs.turns.decoded_at.Reads as decoded-at
+use Rattle.reading.proofs.turns.came_to.Reads as came-to
 use Rattle.reading.proofs.filling.pad_to_min_length.Reads as pad-to-min-length
 use Rattle.reading.proofs.filling.prepare.Reads as prepare
 use Rattle.reading.proofs.decoding.for_each_field.Reads as for-each-field
@@ -24,11 +23,8 @@ one-start = fixed (λ κs a x s p. p)
 one-next-field : Fixes next-field.Post (λ κs x s. x)
 one-next-field = fixed (λ κs a x s p. p)
 
-one-goes-on : Fixes goes-on.Post (λ κs x s. x)
-one-goes-on = fixed (λ κs a x s p. p)
-
-one-decoded-at : Fixes decoded-at.Post (λ κs x s. x)
-one-decoded-at = fixed (λ κs a x s p. p)
+one-came-to : Fixes came-to.Post (λ κs x s. x)
+one-came-to = fixed (λ κs a x s p. p)
 
 one-pad-to-min-length : Fixes pad-to-min-length.Post (λ κs x s. now x)
 one-pad-to-min-length = fixed (λ κs a x s p. p)

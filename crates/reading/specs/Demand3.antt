@@ -22,6 +22,7 @@ use Rattle.fields.specs.Payload.{Payload, payloadOf}
 use Rattle.fields.specs.Shapes.{shapeOf}
 use Rattle.fields.specs.Taken.{takenOf}
 use Rattle.reading.specs.declared.Span.{Span}
+use Rattle.reading.specs.declared.Reading.{Reading}
 use Rattle.reading.specs.declared.Progress.{Progress}
 use Rattle.reading.specs.Decode.{walkOf, readingOf, readings}
 
@@ -82,6 +83,10 @@ pub record Free (t : Table) (received : List ℕ) (v : Span) : Type 0 where
   pub number : shapeOf (t .field (v .field)) ≡ Number strict
   pub counts : (k : ℕ) → k < t .sets → t .set k .counter ≡ v .field → ⊥
   pub inside : past v ≤ 8 * length received
+
+-- where a reading stands
+abbrev pub spanIn : Reading → Span
+spanIn r = record { field = r .field; element = r .element; start = r .start; bits = r .bits }
 
 -- of a payload p, and p′ where the bits of the span v are those of x: us were met before v, ws after it
 pub record Kept (t : Table) (p p′ : Payload) (room : ℕ) (us : List Span) (v : Span) (ws : List Span) (s : Progress) (x : ℕ) : Type 0 where

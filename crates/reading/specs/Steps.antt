@@ -17,8 +17,9 @@ use Rattle.reading.specs.declared.Walk.{Walk}
 use Rattle.reading.specs.declared.Answer.{Answer}
 use Rattle.reading.specs.declared.Answer.the-variants.{Met, Skipped, Moved, Ended, Refused}
 use Rattle.reading.specs.declared.Next.{Next}
-use Rattle.reading.specs.declared.Decoded.{Decoded}
 use Rattle.reading.specs.declared.Decoded.the-variants as decoded
+use Rattle.reading.specs.declared.Came.{Came}
+use Rattle.reading.specs.declared.Came.the-variants as came
 use Rattle.fields.specs.Payload.{Payload}
 use Rattle.fields.specs.Shapes.{shapeOf}
 use Rattle.reading.specs.Groups.{tooMany}
@@ -70,16 +71,17 @@ goesOn Moved = true
 goesOn Ended = false
 goesOn (Refused f) = false
 
--- what a decode answers whose last turn this was: the end, or the refusal; and the readings made
-abbrev pub decodedBy : Answer → Progress → Decoded
-decodedBy (Met r) s = decoded.Ended (s .at) (s .made)
-decodedBy (Skipped v) s = decoded.Ended (s .at) (s .made)
-decodedBy Moved s = decoded.Ended (s .at) (s .made)
-decodedBy Ended s = decoded.Ended (s .at) (s .made)
-decodedBy (Refused f) s = decoded.Refused f (s .made)
+-- what a decode has come to with a turn. Where the walk goes on there is no answer yet; else it is the end, or the refusal, and the readings made
+abbrev pub cameBy : Answer → Progress → Came
+cameBy (Met r) s = came.On
+cameBy (Skipped v) s = came.On
+cameBy Moved s = came.On
+cameBy Ended s = came.To (decoded.Ended (s .at) (s .made))
+cameBy (Refused f) s = came.To (decoded.Refused f (s .made))
 
-abbrev pub decodedAt : Next → Decoded
-decodedAt n = decodedBy (n .answer) (n .walk .progress)
+-- `came_to`
+abbrev pub cameTo : Next → Came
+cameTo n = cameBy (n .answer) (n .walk .progress)
 
 -- the reading that a turn hands out, if it does
 abbrev pub handed : Answer → List Reading

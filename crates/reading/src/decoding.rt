@@ -8,6 +8,7 @@ ghost use Rattle.fields.specs.Payload.{payloadOf};
 ghost use Rattle.reading.specs.Filling.{runAfter};
 ghost use Rattle.reading.specs.Decode.{walkOf, endOf, decodedOf};
 ghost use Rattle.reading.specs.Demand3.{roomEnough};
+use crate::Came;
 use crate::Decoded;
 use crate::Prepared;
 use crate::ROOM_ENOUGH;
@@ -22,11 +23,13 @@ fn walked(words: &[u64], s: &[u8], room: usize) -> Decoded
     let mut walk = turns::start();
     loop {
         let next = turns::next_field(words, s, room, walk);
-        let answer = next.answer;
-        if turns::goes_on(answer) {
-            walk = next.walk;
-        } else {
-            return turns::decoded_at(next);
+        match turns::came_to(next) {
+            Came::On => {
+                walk = next.walk;
+            }
+            Came::To(decoded) => {
+                return decoded;
+            }
         }
     }
 }

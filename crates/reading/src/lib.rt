@@ -9,7 +9,7 @@
 //     prepare               7 and 8, and fills the lent padding run where the table asks for it
 //     pad_to_min_length     the working payload: the received slice, or a part of the padding run
 //     start, next_field     turn by turn: a reading, a field skipped, the end or the refusal
-//     goes_on, decoded_at   whether it goes on, and what it comes to where it does not
+//     came_to               what a turn came to: the walk goes on, or the answer of the decode
 //     for_each_field        all of it in one call, without the readings
 use bits::BitPos;
 use descriptor::Availability;
@@ -32,8 +32,7 @@ pub use crate::filling::prepare;
 pub use crate::groups::counter_at;
 pub use crate::groups::noted_by;
 pub use crate::groups::repeating_group_count;
-pub use crate::turns::decoded_at;
-pub use crate::turns::goes_on;
+pub use crate::turns::came_to;
 pub use crate::turns::next_field;
 pub use crate::turns::start;
 
@@ -112,4 +111,10 @@ pub enum Decoded {
         refusal: DecodeRefusal,
         count: usize,
     },
+}
+
+// What a decode has come to with a turn: `Decoded` only where that was the walk's last.
+pub enum Came {
+    On,
+    To(Decoded),
 }

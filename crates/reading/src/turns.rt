@@ -10,8 +10,9 @@ ghost use Rattle.fields.specs.Shapes.{shapeOf};
 ghost use Rattle.fields.specs.Content.{rawIn, valueIn};
 ghost use Rattle.reading.specs.Groups.{tooMany};
 ghost use Rattle.reading.specs.Decode.{oneOf, countOf, readingOf};
-ghost use Rattle.reading.specs.Steps.{nextTo, shown, nextOf, startOf, goesOn, decodedAt};
+ghost use Rattle.reading.specs.Steps.{nextTo, shown, nextOf, startOf, cameTo};
 use crate::Answer;
+use crate::Came;
 use crate::Decoded;
 use crate::GroupCount;
 use crate::Next;
@@ -243,22 +244,9 @@ pub fn next_field(words: &[u64], s: &[u8], room: usize, walk: Walk) -> Next
     }
 }
 
-// Whether the walk goes on after a turn.
-pub fn goes_on(answer: Answer) -> bool
-    ensures { λ r. ⌜ r ≡ goesOn answer ⌝ }
-{
-    match answer {
-        Answer::Met(_) => true,
-        Answer::Skipped(_) => true,
-        Answer::Moved => true,
-        Answer::Ended => false,
-        Answer::Refused(_) => false,
-    }
-}
-
-// What a decode answers whose last turn this was.
-pub fn decoded_at(next: Next) -> Decoded
-    ensures { λ r. ⌜ r ≡ decodedAt next ⌝ }
+// What a turn came to: the walk goes on, or this is what the decode answers.
+pub fn came_to(next: Next) -> Came
+    ensures { λ r. ⌜ r ≡ cameTo next ⌝ }
 {
     let answer = next.answer;
     let walk = next.walk;
@@ -266,10 +254,10 @@ pub fn decoded_at(next: Next) -> Decoded
     let end = progress.at;
     let count = progress.made;
     match answer {
-        Answer::Met(_) => Decoded::Ended { end, count },
-        Answer::Skipped(_) => Decoded::Ended { end, count },
-        Answer::Moved => Decoded::Ended { end, count },
-        Answer::Ended => Decoded::Ended { end, count },
-        Answer::Refused(refusal) => Decoded::Refused { refusal, count },
+        Answer::Met(_) => Came::On,
+        Answer::Skipped(_) => Came::On,
+        Answer::Moved => Came::On,
+        Answer::Ended => Came::To(Decoded::Ended { end, count }),
+        Answer::Refused(refusal) => Came::To(Decoded::Refused { refusal, count }),
     }
 }

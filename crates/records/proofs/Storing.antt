@@ -12,11 +12,14 @@ use Rattle.fields.specs.Payload.{Payload}
 use Rattle.reading.specs.declared.Reading.{Reading}
 use Rattle.reading.specs.declared.Walk.{Walk}
 use Rattle.reading.specs.declared.Next.{Next}
+use Rattle.reading.specs.declared.Decoded.{Decoded}
+use Rattle.reading.specs.declared.Came.{Came}
+use Rattle.reading.specs.declared.Came.the-variants as came
 use Rattle.reading.specs.declared.Answer.{Answer}
 use Rattle.reading.specs.declared.Answer.the-variants.{Met, Skipped, Moved, Ended, Refused}
 use Rattle.reading.specs.Decode.{walkOf, readings, spansOf, endOf}
-use Rattle.reading.specs.Steps.{nextOf, startOf, goesOn, decodedAt, handed}
-use Rattle.reading.proofs.Looped.{Going, heft, going, Turned, turned, comes-to}
+use Rattle.reading.specs.Steps.{nextOf, startOf, goesOn, cameTo, handed}
+use Rattle.reading.proofs.Looped.{Going, heft, going, Turned, turned, came-on, came-last, comes-to}
 use Rattle.records.specs.Stretches.{stored, Leads}
 use Rattle.records.proofs.Quickly.{stored-then, stored-none}
 use Rattle.records.proofs.Leading.{further}
@@ -65,25 +68,26 @@ module _ (t : Table) (p : Payload) (room : ℕ) (out₀ : List ℕ) where
       pub storing : Storing (n .walk) out
       pub less : heft t p room (n .walk) < heft t p room w
 
-    -- and one that does not
-    pub record Next-last (n : Next) (out : List ℕ) : Type 0 where
+    -- and one that came to the answer d
+    pub record Next-last (d : Decoded) (out : List ℕ) : Type 0 where
       pub puts : out ≡ stored out₀ 0 (readings t p (spansOf (walkOf t p room)))
-      pub ends : endOf t p (walkOf t p room) ≡ decodedAt n
+      pub ends : endOf t p (walkOf t p room) ≡ d
 
     module _ (w : Walk) (out : List ℕ) (h : Storing w out) (n : Next) (same : n ≡ nextOf t p room w) (out′ : List ℕ) (e : out′ ≡ stored out (w .progress .made) (handed (n .answer))) where
       after : Turned t p room w (h .still) n
       after = subst (λ (x : Next). Turned t p room w (h .still) x) (sym same) (turned t p room ok w (h .still))
 
-      pub next-on : goesOn (n .answer) ≡ true → Next-on w n out′
+      pub next-on : cameTo n ≡ came.On → Next-on w n out′
       next-on o =
-          let y = after .on o in
+          let y = after .on (came-on (n .answer) (n .walk .progress) o) in
           record { storing = record { still = y .still; puts = storing-more w out h (handed (n .answer)) (readings t p (y .still .done)) out′ e (y .hands) }; less = y .less }
 
-      pub next-last : goesOn (n .answer) ≡ false → Next-last n out′
-      next-last o =
+      pub next-last : (d : Decoded) → cameTo n ≡ came.To d → Next-last d out′
+      next-last d z =
+          let o = came-last (n .answer) (n .walk .progress) d z in
           let q = none-handed (n .answer) o in
           let k : readings t p (spansOf (walkOf t p room)) ≡ readings t p (h .still .done) = after .last o in
           record {
             puts = storing-more w out h (handed (n .answer)) (readings t p (spansOf (walkOf t p room))) out′ e (k ∙ sym (ap (λ (l : List Reading). readings t p (h .still .done) ++ l) q ∙ append-nil (readings t p (h .still .done))));
-            ends = comes-to t p room ok w (h .still) n after o;
+            ends = comes-to t p room ok w (h .still) n after d z;
           }

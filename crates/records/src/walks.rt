@@ -16,6 +16,7 @@ use crate::stretches;
 use bits::BitPos;
 use fields::Raw;
 use reading::Answer;
+use reading::Came;
 use reading::Decoded;
 use reading::Next;
 use reading::Progress;
@@ -225,11 +226,13 @@ pub(crate) fn store(words: &[u64], s: &[u8], room: usize, out: &mut [u8]) -> Dec
     loop {
         walk = quickly(words, s, room, walk, out);
         let next = turn(words, s, room, walk, out);
-        let answer = next.answer;
-        if reading::goes_on(answer) {
-            walk = next.walk;
-        } else {
-            return reading::decoded_at(next);
+        match reading::came_to(next) {
+            Came::On => {
+                walk = next.walk;
+            }
+            Came::To(decoded) => {
+                return decoded;
+            }
         }
     }
 }

@@ -77,6 +77,10 @@ both : (x y : Bool) → x && y ≡ true → (x ≡ true) × (y ≡ true)
 both true y h = (refl, h)
 both false y h = absurd (false≢true h)
 
+either : (x y : Bool) → x || y ≡ true → (x ≡ true) ⊎ (y ≡ true)
+either true y h = inl refl
+either false y h = inr h
+
 pub between : (lo hi n : ℕ) → within lo hi n ≡ true → (lo ≤ n) × (n ≤ hi)
 between lo hi n h = let b = both (leb lo n) (leb n hi) h in (leb-true lo n (b .0), leb-true n hi (b .1))
 
@@ -87,6 +91,8 @@ pub record Sizes (t : Table) : Type 0 where
   pub sets : t .sets ≤ 4
   pub length : t .length ≤ 223
   pub minimum : t .minimum ≤ 223
+  -- "minimum not above length", where a length is given: 0 is none
+  pub ordered : 1 ≤ t .length → t .minimum ≤ t .length
 
 pub sizes : (t : Table) → checkOf t ≡ Accepted → Sizes t
 sizes t ok =
@@ -101,6 +107,10 @@ sizes t ok =
       sets = leb-true _ _ (s .0);
       length = leb-true _ _ (l .0);
       minimum = leb-true _ _ (m .0);
+      ordered = λ given. ⊎-elim
+          (λ (none : eqb (t .length) 0 ≡ true). let z = eqb-true (t .length) 0 none in absurd (omega (arith, z, given)))
+          (λ (under : leb (t .minimum) (t .length) ≡ true). leb-true _ _ under)
+          (either (eqb (t .length) 0) (leb (t .minimum) (t .length)) (m .1));
     }
 
 -- rule b
@@ -113,10 +123,6 @@ widths t ok i l = kept t ok C i l
 
 bytes-le : (w : ℕ) → wholeBytes w ≡ true → w ≤ 1784
 bytes-le w h = between 8 1784 w (both (eqb (w % 8) 0) (within 8 1784 w) h .1) .1
-
-either : (x y : Bool) → x || y ≡ true → (x ≡ true) ⊎ (y ≡ true)
-either true y h = inl refl
-either false y h = inr h
 
 most : (c : KindClass) (w : ℕ) → widthFits c w ≡ true → w ≤ 1784
 most Numeric w h = let b = between 1 64 w h in omega arith

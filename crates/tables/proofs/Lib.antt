@@ -1,5 +1,6 @@
 pub mod Missing
 pub mod Simple
+pub mod Marks
 pub mod Searches
 pub mod Chain
 pub mod Accepted

@@ -18,15 +18,15 @@ use Rattle.tables.specs.Check.{KeptField}
 
 -- the tests that it passed
 record Passed (w : ℕ) : Type 0 where
-  bare : part w 24 3 ≡ 0
+  bare : w / 2 ^ 24 ≡ 0
   kind : (w % 2 ^ 8 ≡ 0) ⊎ (w % 2 ^ 8 ≡ 2)
   short : part w 8 16 ≤ 64
   width : simpleWidth w ≡ part w 8 16
 
 passed : (w : ℕ) → 0 < simpleWidth w → Passed w
-passed w h = go (eqb (part w 24 3) 0) (eqb (w % 2 ^ 8) 0) (eqb (w % 2 ^ 8) 2) (leb (part w 8 16) 64) refl refl refl refl h
+passed w h = go (eqb (w / 2 ^ 24) 0) (eqb (w % 2 ^ 8) 0) (eqb (w % 2 ^ 8) 2) (leb (part w 8 16) 64) refl refl refl refl h
   where
-    go : (a x y d : Bool) → eqb (part w 24 3) 0 ≡ a → eqb (w % 2 ^ 8) 0 ≡ x → eqb (w % 2 ^ 8) 2 ≡ y → leb (part w 8 16) 64 ≡ d
+    go : (a x y d : Bool) → eqb (w / 2 ^ 24) 0 ≡ a → eqb (w % 2 ^ 8) 0 ≡ x → eqb (w % 2 ^ 8) 2 ≡ y → leb (part w 8 16) 64 ≡ d
         → 0 < pick (a && ((x || y) && d)) (part w 8 16) 0 → Passed w
     go false x y d e f g k h = absurd (omega (arith, h))
     go true false false d e f g k h = absurd (omega (arith, h))
@@ -47,23 +47,27 @@ passed w h = go (eqb (part w 24 3) 0) (eqb (w % 2 ^ 8) 0) (eqb (w % 2 ^ 8) 2) (l
           width = ap₂ (λ (p q : Bool). pick (p && ((eqb (w % 2 ^ 8) 0 || q) && leb (part w 8 16) 64)) (part w 8 16) 0) e g ∙ ap (λ (p : Bool). pick ((p || true) && leb (part w 8 16) 64) (part w 8 16) 0) f ∙ ap (λ (q : Bool). pick q (part w 8 16) 0) k;
         }
 
--- bits 24 to 26 are 0: the sign's and the mark's two
-unsigned : (w : ℕ) → w / 16777216 % 8 ≡ 0 → w / 16777216 % 2 ≡ 0
+-- the bits from 24 on are 0: the sign's, the mark's two and the resolution's
+unsigned : (w : ℕ) → w / 16777216 ≡ 0 → w / 16777216 % 2 ≡ 0
 unsigned w h = omega (arith, h)
 
-unmarked : (w : ℕ) → w / 16777216 % 8 ≡ 0 → w / 33554432 % 4 ≡ 0
+unmarked : (w : ℕ) → w / 16777216 ≡ 0 → w / 33554432 % 4 ≡ 0
 unmarked w h = omega (arith, h)
+
+plain : (w : ℕ) → w / 16777216 ≡ 0 → w / 4294967296 % 4294967296 ≡ 0
+plain w h = omega (arith, h)
 
 pub simple : (w : ℕ) → 0 < simpleWidth w → Simple (fieldOf w) (simpleWidth w)
 simple w h =
     let p = passed w h in
     let s = unsigned w (p .bare) in
     let m = unmarked w (p .bare) in
+    let b = plain w (p .bare) in
     record {
       kind = by (p .kind);
       width = sym (p .width);
       unsigned = ne-eqb (part w 24 1) 1 (λ z. omega (arith, s, z));
-      unscaled = ap (λ (k : ℕ). resolutionOf k (part w 32 32)) m;
+      unscaled = ap₂ resolutionOf m b;
       small = omega (arith, p .short, p .width);
     }
   where

@@ -36,10 +36,10 @@ fieldOf word =
       resolution = resolutionOf (part word 25 2) (part word 32 32);
     }
 
--- the width of the field in a word, if it is a simple number: Number or Lookup, not signed, without a mark, at most 64 bits wide; else 0. It is
--- no rule of document 01: quick ways go by it
+-- the width of the field in a word, if it is a simple number: Number or Lookup, at most 64 bits wide, and nothing above its width: no sign, no
+-- mark, no resolution; else 0. It is no rule of document 01: quick ways go by it
 abbrev pub simpleWidth : ℕ → ℕ
-simpleWidth word = pick (eqb (part word 24 3) 0 && ((eqb (word % 2 ^ 8) 0 || eqb (word % 2 ^ 8) 2) && leb (part word 8 16) 64)) (part word 8 16) 0
+simpleWidth word = pick (eqb (word / 2 ^ 24) 0 && ((eqb (word % 2 ^ 8) 0 || eqb (word % 2 ^ 8) 2) && leb (part word 8 16) 64)) (part word 8 16) 0
 
 -- what such a field is
 pub record Simple (f : FieldDescriptor) (n : ℕ) : Type 0 where

@@ -93,7 +93,7 @@ fn simple_in(w: u64) -> u32
 {
     let code = w % 0x100;
     let width = ((w >> 8) % 0x1_0000) as u32;
-    if (w >> 24) % 8 == 0 {
+    if w >> 24 == 0 {
         if code == 0 {
             return short_width(width);
         }
@@ -104,8 +104,8 @@ fn simple_in(w: u64) -> u32
     0
 }
 
-// The width of field i if it is a Number or Lookup, not signed and without a mark, of 1 to 64 bits:
-// many are, and one look at their word is enough. Else 0.
+// The width of field i if it is a Number or Lookup of 1 to 64 bits, without a sign, a mark or a
+// resolution: many are, and one look at their word is enough. Else 0.
 pub fn simple_width(words: &[u64], i: usize) -> u32
     ensures { λ r. ⌜ r ≡ simpleWidth (getD (now (words .entry)) (1 + i) 0) ⌝ }
 {

@@ -5,7 +5,7 @@ use mathlib.Core.Bool.{Bool, true, false, not, _||_}
 use lib.Dec.{eqb, ltb}
 use Rattle.bits.specs.Bits.{pick}
 use Rattle.bits.specs.Calls.{bits, bytes, saturated, roomOf, widthMax}
-use Rattle.bits.specs.declared.BitRefusal.the-variants.{NonAlignedBit, OutOfBits}
+use Rattle.bits.specs.declared.BitRefusal.the-variants.{TooLongForType, NonAlignedBit, OutOfBits}
 use Rattle.bits.specs.declared.Room.{Room}
 use Rattle.bits.specs.declared.Room.the-variants as room
 use Rattle.descriptor.specs.declared.Encoding.{Encoding}
@@ -48,9 +48,10 @@ ifAligned i at lead w = pick (eqb (at % 8) 0) w (Refused (BitWriteError i (NonAl
 
 -- ## Numbers, and bits that stay ones
 
--- a number of the field's width
+-- a number of the field's width; 1 where it is none, which no accepted table has
 abbrev pub numberBy : RawOf → ℕ → ℕ → ℕ → ℕ → Weighed
 numberBy (raw.Raw r) i size at w = atField (roomOf size at w widthMax) i (Number (bits w) r)
+numberBy (raw.BadWidth n) i size at w = Refused (BitWriteError i (TooLongForType widthMax n))
 numberBy raw.OutOfRange i size at w = Refused (OutOfRange i)
 numberBy raw.WrongKind i size at w = Refused (WrongKind i)
 

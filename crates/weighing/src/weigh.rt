@@ -6,6 +6,7 @@ use crate::EncodeRefusal;
 use crate::Weighed;
 use crate::texts;
 use bits::BitPos;
+use bits::BitRefusal;
 use bits::ByteCount;
 use bits::Room;
 use descriptor::FieldDescriptor;
@@ -32,6 +33,10 @@ fn number(f: FieldDescriptor, i: usize, value: PgnValue, size: usize, at: usize)
                 },
             )
         }
+        RawOf::BadWidth(asked) => Weighed::Refused(EncodeRefusal::BitWriteError {
+            field: i,
+            refusal: BitRefusal::TooLongForType { max: 64, asked },
+        }),
         RawOf::OutOfRange => Weighed::Refused(EncodeRefusal::OutOfRange { field: i }),
         RawOf::WrongKind => Weighed::Refused(EncodeRefusal::WrongKind { field: i }),
     }

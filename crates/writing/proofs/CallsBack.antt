@@ -21,7 +21,7 @@ use Rattle.writing.proofs.ReadsBack.{records-read-back}
 use Rattle.writing.proofs.encodes.encode.Reads as encode
 
 -- what a contract P says of each run that it allows: of the lifetimes, the arguments, the answer and the parameters at exit
-abbrev Says : {K : Type 0} {A X S : K → Type 0} → ((κs : K) → A κs → X κs → S κs → Type 0) → ((κs : K) → A κs → X κs → S κs → Type 0) → Type 0
+abbrev pub Says : {K : Type 0} {A X S : K → Type 0} → ((κs : K) → A κs → X κs → S κs → Type 0) → ((κs : K) → A κs → X κs → S κs → Type 0) → Type 0
 Says {K} {A} {X} {S} P Q = (κs : K) (a : A κs) (x : X κs) (s : S κs) → P κs a x s → Q κs a x s
 
 -- an accepted `encode`: of words, value records, lent text and buffer

@@ -1,5 +1,5 @@
 -- The image of an encode, its first bytes used and the table's filling, holds each field that was written. Assumes nothing.
-use mathlib.Core.Path.{_≡_, refl, sym, ap, _∙_}
+use mathlib.Core.Path.{_≡_, refl, sym, ap, _∙_, subst}
 use mathlib.Core.List.{List, [], _∷_, _++_}
 use Prim.Native.Nat.{ℕ, _+_, _*_, _/_, _%_, _≤_, _<_}
 use native.Mathlib.Omega.{arith}
@@ -12,7 +12,7 @@ use Rattle.tables.specs.Table.{Table}
 use Rattle.tables.specs.Check.{checkOf}
 use Rattle.tables.specs.declared.Checked.the-variants.{Accepted}
 use Rattle.walking.specs.declared.Element.{Element}
-use Rattle.walking.specs.Runs.{ran, stopped}
+use Rattle.walking.specs.Runs.{Run, ran, stopped}
 use Rattle.walking.specs.Walk.{hit, walkFrom}
 use Rattle.walking.proofs.Visits.{All}
 use Rattle.walking.proofs.Lawful.{Lawful, lawful-fields, lawful-ran, lawful-stopped}
@@ -27,10 +27,11 @@ use Rattle.weighing.specs.declared.Weighed.the-variants.{Number, Gap, Text, Ref
 use Rattle.offers.specs.declared.Offer.{Offer}
 use Rattle.writing.specs.declared.Pen.{Pen}
 use Rattle.writing.specs.Ink.{Puttable}
-use Rattle.writing.specs.Encode.{Mark, markAt, penAfter, contentOf, settled, oneOf, countOf, tooMany, beginning, writesOf, bytesUsed, imageOf}
+use Rattle.writing.specs.Encode.{Mark, markAt, penAfter, contentOf, settled, oneOf, countOf, tooMany, beginning, writesOf, bytesUsed, marksOf, imageOf}
+use Rattle.writing.specs.Ones.{past, endAt}
 use Rattle.writing.proofs.Contents.{content-puts}
 use Rattle.writing.proofs.Holding.{Inks, Holds}
-use Rattle.writing.proofs.Painted.{inks-local, past, Chained, chained-append, chained-le, chained-inside, length-painted, painted-inks}
+use Rattle.writing.proofs.Painted.{inks-local, Chained, chained-append, chained-le, chained-end, chained-inside, length-painted, painted-inks}
 
 -- ## The fields that an encode writes follow one another, and lie in the buffer
 
@@ -44,7 +45,10 @@ module _ (t : Table) (offered : ℕ → Offer) (lent : List ℕ) (size : ℕ) wh
   settled-one i e s (Text n lead b) m z l h = let p : markAt i e (s .at .0) (Text n lead b) ≡ m = cc in let q : penAfter t i e s (Text n lead b) ≡ z = cc in rw (← p, ← q) (refl, (l, refl))
   settled-one i e s (Refused f) m z l h = let k : _≡_ {A = ℕ} 0 1 = cc in absurd (omega arith)
 
-  chained : Lawful C (λ (s : Pen) (f : EncodeRefusal). Unit {0}) beginning (writesOf t offered (length lent) size)
+  abbrev Follow : Run Mark Pen EncodeRefusal → Type 0
+  Follow w = Lawful C (λ (s : Pen) (f : EncodeRefusal). Unit {0}) beginning w
+
+  chained : Follow (writesOf t offered (length lent) size)
   unfolding walkFrom
   chained = lawful-fields t (oneOf t offered (length lent) size) (countOf t) tooMany (t .count) C (λ s f. Unit {0}) (λ s. refl)
       (λ s m z us ws a b. chained-append size lent (s .at .0) (m .at .0) (z .at .0) us ws a b)
@@ -57,9 +61,16 @@ module _ (t : Table) (offered : ℕ → Offer) (lent : List ℕ) (size : ℕ) wh
   pub writes-chained : (ms : List Mark) (s : Pen) → writesOf t offered (length lent) size ≡ ran ms s → Chained size (length lent) 0 ms (s .at .0)
   writes-chained ms s e = lawful-ran (rw e at chained)
 
-  -- .. and one that was
-  pub stops-chained : (ms : List Mark) (f : EncodeRefusal) → writesOf t offered (length lent) size ≡ stopped ms f → (z : Pen) × Chained size (length lent) 0 ms (z .at .0)
-  stops-chained ms f e = let a = lawful-stopped (rw e at chained) in (a .0, a .1)
+  -- .. and, ended or refused, up to the end of the last field
+  pub wrote-chained : let ms = marksOf (writesOf t offered (length lent) size) in Chained size (length lent) 0 ms (endAt ms)
+  wrote-chained = go (writesOf t offered (length lent) size) chained
+    where
+      to-end : (ms : List Mark) (b : ℕ) → Chained size (length lent) 0 ms b → Chained size (length lent) 0 ms (endAt ms)
+      to-end ms b c = subst (λ (x : ℕ). Chained size (length lent) 0 ms x) (sym (chained-end size lent 0 ms b c)) c
+
+      go : (w : Run Mark Pen EncodeRefusal) → Follow w → Chained size (length lent) 0 (marksOf w) (endAt (marksOf w))
+      go (ran ms s) l = to-end ms (s .at .0) (lawful-ran l)
+      go (stopped ms f) l = let a = lawful-stopped l in to-end ms (a .0 .at .0) (a .1)
 
 -- ## What is received of them
 

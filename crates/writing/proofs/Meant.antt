@@ -75,6 +75,7 @@ module _ (G : PgnValue → Type 0) (f : FieldDescriptor) (lent at : ℕ) where
     number-meant : (strict : Bool) (v : PgnValue) → G v → (x : RawOf) → rawOf f v ≡ x → Meant (shape.Number strict) (numberBy x i size at (f .width))
     number-meant strict v g (raw.Raw r) q =
         at-room (shape.Number strict) (roomOf size at (f .width) 64) (Number (bits (f .width)) r) (λ h. let k = fitting size at (f .width) 64 h in a-number v g q (k .some) (k .narrow))
+    number-meant strict v g (raw.BadWidth n) q = refused
     number-meant strict v g raw.OutOfRange q = refused
     number-meant strict v g raw.WrongKind q = refused
 

@@ -17,6 +17,7 @@ use Rattle.weighing.specs.declared.Weighed.the-variants.{Number, Gap, Text, Ref
 use Rattle.writing.specs.Ink.{textIn, bytesBy, poured, inked, Whole, Puttable}
 use Rattle.writing.specs.Encode.{Mark, painted}
 use Rattle.writing.specs.Strokes.{sizeOf}
+use Rattle.writing.specs.Ones.{past, endFrom}
 use Rattle.writing.proofs.Pours.{length-poured, text-long}
 use Rattle.writing.proofs.Holding.{Inks}
 
@@ -81,7 +82,7 @@ module _ (lent : List ℕ) where
   inked-before s at (Text n lead b) i l h = poured-before s at _ i l h
   inked-before s at (Refused e) i l h = refl
 
-  bytes-fit : (n : ℕ) (lead : Lead) (b : PgnBytes) → b .start .0 + b .len .0 ≤ length lent → Whole n lead (b .len .0) → 8 * length (bytesBy lead n (textIn lent b)) ≤ n
+  pub bytes-fit : (n : ℕ) (lead : Lead) (b : PgnBytes) → b .start .0 + b .len .0 ≤ length lent → Whole n lead (b .len .0) → 8 * length (bytesBy lead n (textIn lent b)) ≤ n
   bytes-fit n lead b l w = whole-fits lead n (textIn lent b) (b .len .0) (text-long lent (b .start .0) (b .len .0) l) w
 
   module _ (size at : ℕ) where
@@ -105,10 +106,6 @@ module _ (lent : List ℕ) where
 
 -- ## Fields one after another
 
--- the bit after a field
-abbrev pub past : Mark → ℕ
-past m = m .start + sizeOf (m .content) .0
-
 -- each starts where the one before it ends, from bit a to bit b, and lies in the buffer
 abbrev pub Chained : ℕ → ℕ → ℕ → List Mark → ℕ → Type 0
 Chained size lent a [] b = a ≡ b
@@ -125,6 +122,11 @@ module _ (size : ℕ) (lent : List ℕ) where
   pub chained-le : (a : ℕ) (ms : List Mark) (b : ℕ) → C a ms b → a ≤ b
   chained-le a [] b h = omega arith
   chained-le a (m ∷ ms) b h = let l = chained-le (past m) ms b (h .1 .1) in omega (arith, h .0)
+
+  pub chained-end : (a : ℕ) (ms : List Mark) (b : ℕ) → C a ms b → endFrom a ms ≡ b
+  unfolding endFrom
+  chained-end a [] b h = h
+  chained-end a (m ∷ ms) b h = chained-end (past m) ms b (h .1 .1)
 
   -- they end in the buffer
   pub chained-inside : (a : ℕ) (ms : List Mark) (b : ℕ) → C a ms b → a ≤ size * 8 → b ≤ size * 8

@@ -60,6 +60,7 @@ module _ (size at lent : ℕ) where
   module _ (small : size ≤ 223) where
     number-puts : (r : RawOf) (i w : ℕ) → P (numberBy r i size at w)
     number-puts (raw.Raw x) i w = at-room (roomOf size at w 64) i _ (λ h. let f = fitting size at w 64 h in (small, (f .some, (f .narrow, f .inside))))
+    number-puts (raw.BadWidth n) i w = refl
     number-puts raw.OutOfRange i w = refl
     number-puts raw.WrongKind i w = refl
 

@@ -1,4 +1,5 @@
 pub mod Ink
 pub mod Encode
 pub mod Strokes
+pub mod Ones
 pub mod ReadBack

@@ -1,9 +1,6 @@
--- `numbers::conversions::scaled` meets its contract: what `quantize` answers of the value's number. Assumes nothing.
+-- `numbers::conversions::scaled` meets its contract: what `quotient` answers of the value's number. Assumes nothing.
 use mathlib.Core.Path.{_≡_, sym, ap, _∙_}
-use Prim.Native.Nat.{ℕ, min}
-use native.Mathlib.Omega.{arith}
 use Rattle.numbers.specs.declared.AsF64.{AsF64}
-use Rattle.numbers.specs.Quantizing.{quantizeOf}
 use Rattle.numbers.specs.Conversions.{rangedOf, scaledRawOf}
 use borrow.Author.Needs.{needs}
 use Rattle.numbers.proofs.conversions.scaled.Statement.{statement}
@@ -21,8 +18,8 @@ enum-told c = search needs
 returns : tie.Need-returns
 returns c = search needs
 
-quantize-requires : tie.Need-quantize-requires
-quantize-requires c κs = search needs
+quotient-requires : tie.Need-quotient-requires
+quotient-requires c κs = search needs
 
 ranged-requires : tie.Need-ranged-requires
 ranged-requires c κs = search needs
@@ -32,9 +29,8 @@ returns-2 c =
     let x = c .before .before .before in
     let v = x .before .before in
     let a = v .before .args in
-    let m : min (a .n) 64 ≡ a .n = omega arith in
     c .ranged .ensures
-    ∙ ap rangedOf (c .before .quantize .ensures ∙ ap (λ (k : ℕ). quantizeOf (x .x .given .0 .0) (a .resolution) k (a .signed)) m)
+    ∙ ap rangedOf (c .before .quotient .ensures)
     ∙ ap (λ (q : AsF64). scaledRawOf q (a .resolution) (a .n) (a .signed)) (sym (x .x .given .1) ∙ v .pgn-value-to-f64 .ensures)
 
 pub scaled-spec : {M : Type 1} → statement M
@@ -45,6 +41,6 @@ scaled-spec =
     enum-known-x
     enum-told
     returns
-    quantize-requires
+    quotient-requires
     ranged-requires
     returns-2)

@@ -10,7 +10,7 @@ use Rattle.tables.specs.declared.Checked.the-variants.{Accepted}
 use Rattle.reading.specs.declared.Next.{Next}
 use Rattle.reading.specs.declared.Walk.{Walk}
 use Rattle.reading.specs.Steps.{goesOn}
-use Rattle.reading.proofs.Looped.{Going, heft, going, Turned, turned, comes-to}
+use Rattle.reading.proofs.Looped.{Going, heft, going, Turned, turned, came-on, comes-to}
 use borrow.Author.Needs.{needs}
 use Rattle.reading.proofs.decoding.walked.Statement.{statement}
 use Rattle.reading.proofs.decoding.walked.Tie as tie
@@ -44,29 +44,33 @@ loop-holds c =
 next-field-requires : tie.Need-next-field-requires Inv-loop μ-loop
 next-field-requires c κs = search needs
 
--- the test that it passed
-on : (c : tie.After-walk Inv-loop μ-loop) → goesOn (c .before .before .before .next-field .result .answer) ≡ true
-on c = sym (c .before .before .goes-on .ensures) ∙ c .before .if1 .taken
+came-to-requires : tie.Need-came-to-requires Inv-loop μ-loop
+came-to-requires c κs = search needs
 
-goes-on-requires : tie.Need-goes-on-requires Inv-loop μ-loop
-goes-on-requires c κs = search needs
+enum-told : tie.Need-enum-told Inv-loop μ-loop
+enum-told c = search needs
+
+-- the walk goes on
+on : (c : tie.After-walk Inv-loop μ-loop) → goesOn (c .before .before .before .before .next-field .result .answer) ≡ true
+on c =
+    let n = c .before .before .before .before .next-field .result in
+    came-on (n .answer) (n .walk .progress) (sym (c .before .before .before .came-to .ensures) ∙ c .before .enum-told .given .1)
 
 loop-less : tie.Need-loop-less Inv-loop μ-loop
-loop-less c = left (c .before .before .before) .on (on c) .less
+loop-less c = left (c .before .before .before .before) .on (on c) .less
 
 loop-again : tie.Need-loop-again Inv-loop μ-loop
-loop-again c = (c .before .before .before .before .loop .inv .0, left (c .before .before .before) .on (on c) .still)
+loop-again c = (c .before .before .before .before .before .loop .inv .0, left (c .before .before .before .before) .on (on c) .still)
 
-decoded-at-requires : tie.Need-decoded-at-requires Inv-loop μ-loop
-decoded-at-requires c κs = search needs
+enum-known-decoded : tie.Need-enum-known-decoded Inv-loop μ-loop
+enum-known-decoded c = search needs
 
 returns : tie.Need-returns Inv-loop μ-loop
 returns c =
-    let q = c .before .before .before in
+    let q = c .before .before .before .before in
     let l = q .before in
     let a = l .before .before .before .before .args in
-    c .decoded-at .ensures
-    ∙ sym (comes-to (tableOf (now (a .words))) (payloadOf (now (a .s))) (a .room) (l .loop .inv .0) (l .loop .walk) (l .loop .inv .1) (q .next-field .result) (left q) (sym (c .before .before .goes-on .ensures) ∙ c .before .if1 .left))
+    sym (comes-to (tableOf (now (a .words))) (payloadOf (now (a .s))) (a .room) (l .loop .inv .0) (l .loop .walk) (l .loop .inv .1) (q .next-field .result) (left q) _ (sym (c .before .before .before .came-to .ensures) ∙ c .before .decoded .given .1))
 
 pub walked-spec : {M : Type 1} → statement M
-walked-spec = tie.close (tie.spec Inv-loop μ-loop start-requires loop-holds next-field-requires goes-on-requires loop-less loop-again decoded-at-requires returns)
+walked-spec = tie.close (tie.spec Inv-loop μ-loop start-requires loop-holds next-field-requires came-to-requires enum-told loop-less loop-again enum-known-decoded returns)

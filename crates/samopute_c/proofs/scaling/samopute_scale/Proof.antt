@@ -1,63 +1,69 @@
--- `samopute_c::scaling::samopute_scale` meets its contract: each cell is what its call says of the field. Assumes nothing.
-use mathlib.Core.Path.{_≡_, ap, _∙_}
-use mathlib.Core.List.{[], _∷_}
+-- `samopute_c::scaling::samopute_scale` meets its contract: by whether the field holds a number. Assumes nothing.
+use mathlib.Core.Path.{_≡_, refl, sym, ap, ap₂, _∙_}
+use mathlib.Core.List.{List}
 use Prim.Native.Nat.{ℕ}
 use Rattle.descriptor.specs.declared.FieldDescriptor.{FieldDescriptor}
-use Rattle.numbers.specs.Scaling.{scaleOf}
-use Rattle.numbers.specs.Special.{numberAvailabilityOf}
-use Rattle.numbers.specs.Words.{codeOf, wordOf, silenceOf}
+use Rattle.numbers.specs.declared.Holds.{Holds}
+use Rattle.numbers.specs.Holds.{holdsOf}
+use Rattle.numbers.specs.Refusals.{numberOf}
 use borrow.Author.Needs.{needs}
+use Rattle.samopute_c.specs.Values.{fieldOf, refusedBy, scaleStatus, scaleCellsBy, scaleCells}
 use Rattle.samopute_c.proofs.scaling.samopute_scale.Statement.{statement}
 use Rattle.samopute_c.proofs.scaling.samopute_scale.Tie as tie
 
-three : {a b d x y z : ℕ} → a ≡ x → b ≡ y → d ≡ z → a ∷ b ∷ d ∷ [] ≡ x ∷ y ∷ z ∷ []
-three p q r = cc
+-- the answer is that of the field that the numbers describe, by what it holds
+as-law : (c : tie.After-holds-number) {h : Holds} {r : ℕ} {l : List ℕ} → c .holds-number .result ≡ h
+    → let a = c .before .before .args in
+    (r ≡ numberOf (refusedBy h)) × (l ≡ scaleCellsBy h (c .before .field-of .result) (a .raw))
+    → let f = fieldOf (a .kind) (a .width) (a .is-signed) (a .mark) (a .resolution) in
+    (r ≡ scaleStatus f) × (l ≡ scaleCells f (a .raw))
+as-law c e p =
+    let raw = c .before .before .args .raw in
+    let f = c .before .field-of .ensures in
+    let same = sym e ∙ c .holds-number .ensures ∙ ap holdsOf f in
+    (p .0 ∙ ap (λ (h : Holds). numberOf (refusedBy h)) same, p .1 ∙ ap₂ (λ (h : Holds) (x : FieldDescriptor). scaleCellsBy h x raw) same f)
 
 field-of-requires : tie.Need-field-of-requires
 field-of-requires c κs = search needs
 
-scale-raw-field-requires : tie.Need-scale-raw-field-requires
-scale-raw-field-requires c κs = search needs
+holds-number-requires : tie.Need-holds-number-requires
+holds-number-requires c κs = search needs
 
-word-of-requires : tie.Need-word-of-requires
-word-of-requires c κs = search needs
+enum-told : tie.Need-enum-told
+enum-told c = search needs
 
-number-availability-requires : tie.Need-number-availability-requires
-number-availability-requires c κs = search needs
+tell-scaled-requires : tie.Need-tell-scaled-requires
+tell-scaled-requires c κs = search needs
 
-silence-of-requires : tie.Need-silence-of-requires
-silence-of-requires c κs = search needs
+enum-told-2 : tie.Need-enum-told-2
+enum-told-2 c = search needs
 
-counter-elements-requires : tie.Need-counter-elements-requires
-counter-elements-requires c κs = search needs
+enum-known-w : tie.Need-enum-known-w
+enum-known-w c = search needs
 
-code-of-requires : tie.Need-code-of-requires
-code-of-requires c κs = search needs
+cast-t13 : tie.Need-cast-t13
+cast-t13 c = search needs
 
 returns : tie.Need-returns
-returns c =
-    let answered = c .before .before in
-    let silenced = answered .before in
-    let available = silenced .before in
-    let worded = available .before in
-    let scaled = worded .before in
-    let made = scaled .before in
-    let raw = made .before .args .raw in
-    let value = scaled .scale-raw-field .ensures ∙ ap (λ (f : FieldDescriptor). scaleOf f raw) (made .field-of .ensures) in
-    let said = available .number-availability .ensures ∙ ap (λ (f : FieldDescriptor). numberAvailabilityOf f raw) (made .field-of .ensures) in (
-      c .code-of .ensures ∙ ap codeOf value,
-      three (worded .word-of .ensures ∙ ap wordOf value) (silenced .silence-of .ensures ∙ ap silenceOf said) (answered .counter-elements .ensures),
-    )
+returns c = as-law (c .before .before .before .before) (c .before .before .enum-told .given .1) (c .tell-scaled .ensures)
+
+returns-2 : tie.Need-returns-2
+returns-2 c = as-law (c .before .before .before) (c .before .enum-told2 .given .1) (refl, refl)
+
+returns-3 : tie.Need-returns-3
+returns-3 c = as-law (c .before .before .before .before) (c .before .before .w .given .1) (refl, refl)
 
 pub samopute-scale-spec : {M : Type 1} → statement M
 samopute-scale-spec =
     tie.close
     (tie.spec
     field-of-requires
-    scale-raw-field-requires
-    word-of-requires
-    number-availability-requires
-    silence-of-requires
-    counter-elements-requires
-    code-of-requires
-    returns)
+    holds-number-requires
+    enum-told
+    tell-scaled-requires
+    enum-told-2
+    enum-known-w
+    cast-t13
+    returns
+    returns-2
+    returns-3)

@@ -19,6 +19,9 @@ room-for-requires c κs = search needs
 at-field-requires : tie.Need-at-field-requires
 at-field-requires c κs = search needs
 
+enum-known-asked : tie.Need-enum-known-asked
+enum-known-asked c = search needs
+
 enum-told : tie.Need-enum-told
 enum-told c = search needs
 
@@ -31,10 +34,13 @@ returns c =
     simp (sym (r .before .before .number-to-raw .ensures) ∙ r .raw .given .1, c .at-field .ensures, c .before .room-for .ensures)
 
 returns-2 : tie.Need-returns-2
-returns-2 c = simp (sym (c .before .before .number-to-raw .ensures) ∙ c .enum-told .given .1)
+returns-2 c = simp (sym (c .before .before .before .number-to-raw .ensures) ∙ c .before .asked .given .1)
 
 returns-3 : tie.Need-returns-3
-returns-3 c = simp (sym (c .before .before .number-to-raw .ensures) ∙ c .enum-told2 .given .1)
+returns-3 c = simp (sym (c .before .before .number-to-raw .ensures) ∙ c .enum-told .given .1)
+
+returns-4 : tie.Need-returns-4
+returns-4 c = simp (sym (c .before .before .number-to-raw .ensures) ∙ c .enum-told2 .given .1)
 
 pub number-spec : {M : Type 1} → statement M
 number-spec =
@@ -45,8 +51,10 @@ number-spec =
     cast-taken
     room-for-requires
     at-field-requires
+    enum-known-asked
     enum-told
     enum-told-2
     returns
     returns-2
-    returns-3)
+    returns-3
+    returns-4)
