@@ -52,7 +52,8 @@ extern "C" {
 
 /*
  * The refusals, with what each carries. 1 to 3 and 6 are those of the bit calls, 2 to 5, 7 to 9 and 15 those of
- * decode, 2, 3, 5, 7, 8, 10 to 13 and 15 those of encode. In decode and encode 2 and 3 carry the field first. 10 and 11
+ * decode, 2, 3, 5, 7, 8, 10 to 13 and 15 those of encode. In decode and encode 2 and 3 carry the field first. 1 is that
+ * of the calls on numbers too, as in a bit call, and 11 that of samopute_scale, where it carries nothing. 10 and 11
  * are those of samopute_raw_of too, where they carry nothing. 14 is of the programs: no call of this header answers it.
  *
  * Refusal 2 counts bits in an encode and in the bit calls on numbers, bytes in the slice calls, and in a decode what
@@ -89,7 +90,8 @@ enum samopute_rule {
     SAMOPUTE_RULE_A = 1, /* counts: 1 to 64 fields, at most 4 sets; length and minimum 1 to 223, minimum <= length */
     SAMOPUTE_RULE_B = 2, /* a kind that cannot be read: Decimal, Unimplemented or no kind */
     SAMOPUTE_RULE_C = 3, /* a width that its kind does not take */
-    SAMOPUTE_RULE_D = 4, /* a resolution where none may be, or one outside 2^-64 to 2^20 */
+    SAMOPUTE_RULE_D = 4, /* a resolution where none may be, outside 2^-64 to 2^20, or without a mark of its own; a mark
+                            that is neither single nor double */
     SAMOPUTE_RULE_E = 5, /* signed where it may not be; Date or Mmsi without resolution, not of 16 or 32 bits */
     SAMOPUTE_RULE_F = 6, /* a StringLz that is not the last field, or in a set */
     SAMOPUTE_RULE_G = 7, /* sets out of order, overlapping, out of the table, of no width; size 0; maximum not 1 to 255 */
@@ -145,7 +147,7 @@ enum samopute_availability { SAMOPUTE_AVAILABLE = 0, SAMOPUTE_NOT_AVAILABLE = 1 
  * A table in words is a head, a word for each field, a word for each set. These build the words, also in constants.
  *
  * A number that does not fit its place becomes the largest that does, which the table check refuses: it is never taken
- * for another number. (A mark becomes 3, which says nothing: the field is unscaled.)
+ * for another number. A mark that does not fit becomes 3, which rule d refuses, as it does a resolution without a mark.
  */
 #define SAMOPUTE_AT_MOST(most, number) ((uint64_t)(number) < (uint64_t)(most) ? (uint64_t)(number) : (uint64_t)(most))
 #define SAMOPUTE_16(number) SAMOPUTE_AT_MOST(0xFFFF, number)
@@ -287,15 +289,35 @@ uint32_t samopute_write_slice(uint8_t *buffer, size_t length, size_t cursor, con
 size_t samopute_bits_remaining(const uint8_t *buffer, size_t length, size_t cursor);
 
 /*
- * The value of a raw, by its field. Answers the value's kind, 1 to 10. answer[0]: the value's bits, as in a record;
- * answer[1]: 0 if it is available, else 1; answer[2]: the elements that the raw means as a counter.
+ * The calls on numbers, by a field of any numbers: its kind (enum samopute_kind), its width in bits, whether it is
+ * signed (0 or not), its mark (enum samopute_mark) and the bits of its resolution, an f32. They answer 0 or the number
+ * of the refusal. Of the field they refuse
+ *
+ * 11  a kind that holds no number: StringFix, StringLz, StringLau, Reserved, Spare, Decimal, Unimplemented, a Binary
+ *     whose width is a multiple of 8, and a number that is no kind
+ * 1   then, a width of 0 or over 64: answer[0] is 64, answer[1] the width
+ *
+ * and lay 0 into the rest of `answer`. They ask no more of it: a width, a sign or a resolution that no table may have
+ * is taken. A mark that is neither single nor double, or a resolution without a mark, is a factor that is no number:
+ * the scaled value is a NaN, an F64 for a Time and else an F32. A kind that takes no resolution does not look at it.
  */
-uint32_t samopute_scale(uint32_t kind, uint32_t width, uint32_t is_signed, uint32_t mark, uint32_t resolution,
-                        uint64_t raw, uint64_t answer[3]);
 
 /*
- * The raw of a value. 0: answer[0] is the raw. 10: out of range. 11: the field takes no such value, or `value` is no
- * value of its kind (300 as an U8, 0xFFFF as an I16): nothing is cut to low bits.
+ * The value of a raw. Only the low `width` bits of the raw count.
+ *
+ * answer[0]  the value's kind, 1 to 10
+ * answer[1]  the value's bits, as in a record
+ * answer[2]  0 if it is available, else 1
+ * answer[3]  the elements that the raw means as a counter
+ */
+uint32_t samopute_scale(uint32_t kind, uint32_t width, uint32_t is_signed, uint32_t mark, uint32_t resolution,
+                        uint64_t raw, uint64_t answer[4]);
+
+/*
+ * The raw of a value: answer[0], then 0. First of all, 11 if `value` is no value of its kind (300 as an U8, 0xFFFF as
+ * an I16) or there is no such kind: nothing is cut to low bits. After the field's refusals, 11 if the field takes no
+ * such value, and 10 if it is out of range, as every float and signed integer is where the factor is no number. 10 and
+ * 11 lay down 0. The raw of a Float has 32 bits, whatever its width.
  */
 uint32_t samopute_raw_of(uint32_t kind, uint32_t width, uint32_t is_signed, uint32_t mark, uint32_t resolution,
                          uint32_t value_kind, uint64_t value, uint64_t answer[3]);

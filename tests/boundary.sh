@@ -71,6 +71,7 @@ static const uint64_t table[] = {
     SAMOPUTE_FIELD(SAMOPUTE_NUMBER, 16, 1, SAMOPUTE_MARK_DOUBLE, 0x3C23D70A),
     SAMOPUTE_SET(1, 1, 0, 255),
 };
+static const uint64_t mismarked[] = {SAMOPUTE_HEAD(1, 0, 0, 0), SAMOPUTE_FIELD(SAMOPUTE_NUMBER, 8, 0, 1025, 0x3C23D70A)};
 END
     make_values
     make_in_place
@@ -112,6 +113,9 @@ int main(void)
     }
     if (samopute_check(table, sizeof table / sizeof table[0], answer) != SAMOPUTE_DONE) {
         return 7;
+    }
+    if (samopute_check(mismarked, 2, answer) != SAMOPUTE_TABLE_REFUSED || answer[0] != SAMOPUTE_RULE_D || answer[1] != 0) {
+        return 30;
     }
     if (SAMOPUTE_VERSION != 131072 || samopute_version() != SAMOPUTE_VERSION) {
         return 13;

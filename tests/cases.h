@@ -362,21 +362,25 @@ static inline struct samopute_value some_odd_value(struct draws *d)
     return once_in(d, 4) ? samopute_value_of_i64(-(int64_t)below(d, 300)) : v;
 }
 
-/* What some raw of a number field says, now and then doubled, which may be beyond its range. */
+/* What some raw of a number field says, now and then doubled, which may be beyond its range; of a field that is refused,
+ * any value. */
 static inline struct samopute_value some_number_value(struct draws *d, uint64_t field)
 {
     uint64_t raw = draw(d) >> below(d, 64);
-    uint64_t answer[3];
-    uint32_t kind =
+    uint64_t answer[4];
+    uint32_t status =
         samopute_scale((uint32_t)(field & 0xFF), (uint32_t)(field >> 8 & 0xFFFF), (uint32_t)(field >> 24 & 1),
                        (uint32_t)(field >> 25 & 3), (uint32_t)(field >> 32), raw, answer);
-    if (kind == SAMOPUTE_VALUE_F64 && once_in(d, 8)) {
-        return samopute_value_of_f64(samopute_bits_f64(answer[0]) * 2);
+    if (status != 0) {
+        return some_odd_value(d);
     }
-    if (kind == SAMOPUTE_VALUE_F32 && once_in(d, 8)) {
-        return samopute_value_of_f64(samopute_bits_f32(answer[0]));
+    if (answer[0] == SAMOPUTE_VALUE_F64 && once_in(d, 8)) {
+        return samopute_value_of_f64(samopute_bits_f64(answer[1]) * 2);
     }
-    return samopute_value_of((uint8_t)kind, answer[0], draw(d));
+    if (answer[0] == SAMOPUTE_VALUE_F32 && once_in(d, 8)) {
+        return samopute_value_of_f64(samopute_bits_f32(answer[1]));
+    }
+    return samopute_value_of((uint8_t)answer[0], answer[1], draw(d));
 }
 
 /* Bytes of the text that the field takes, but for a few. */

@@ -403,18 +403,18 @@ static void check_room(const struct decode *c)
 static void check_number(uint64_t field, const struct samopute_reading *r, const uint8_t *working, size_t length)
 {
     uint64_t read[3];
-    uint64_t scaled[3];
-    uint32_t kind;
+    uint64_t scaled[4];
+    uint32_t status;
     hold(r->has_raw == 1 && r->length == 0, "a number without a raw, or with a length");
     hold(r->has_encoding == 0 && r->encoding == 0, "a number with an encoding");
     this_call = "samopute_read_u64";
     hold(samopute_read_u64(working, length, (size_t)r->start, (uint32_t)r->bits, read) == 0, "a raw beyond the payload");
     hold(read[1] == r->raw, "a raw that is not there");
     this_call = "samopute_scale";
-    kind = samopute_scale((uint32_t)(field & 0xFF), (uint32_t)(field >> 8 & 0xFFFF), (uint32_t)(field >> 24 & 1),
-                          (uint32_t)(field >> 25 & 3), (uint32_t)(field >> 32), r->raw, scaled);
-    hold(kind == r->value_kind && scaled[0] == r->value, "a value that is not its raw's");
-    hold(scaled[1] == r->availability, "an availability that is not its raw's");
+    status = samopute_scale((uint32_t)(field & 0xFF), (uint32_t)(field >> 8 & 0xFFFF), (uint32_t)(field >> 24 & 1),
+                            (uint32_t)(field >> 25 & 3), (uint32_t)(field >> 32), r->raw, scaled);
+    hold(status == 0 && scaled[0] == r->value_kind && scaled[1] == r->value, "a value that is not its raw's");
+    hold(scaled[2] == r->availability, "an availability that is not its raw's");
 }
 
 /* A text or bytes: they lie in the payload and in the bits that the field takes. */
@@ -1121,36 +1121,111 @@ static uint32_t some_number_up_to(struct draws *d, uint64_t usual)
     return once_in(d, 8) ? (uint32_t)draw(d) : (uint32_t)below(d, usual + 1);
 }
 
-/* A raw to its value, and the value back: an unscaled number that is its own raw comes back as it was. */
-static void numbers_round(struct draws *d)
+/* A field as the calls on numbers take it. */
+struct number_field {
+    uint32_t kind;
+    uint32_t width;
+    uint32_t is_signed;
+    uint32_t mark;
+    uint32_t resolution;
+};
+
+static struct number_field some_number_field(struct draws *d)
+{
+    struct number_field f;
+    f.kind = some_number_up_to(d, 19);
+    f.width = some_number_up_to(d, 66);
+    f.is_signed = some_number_up_to(d, 1);
+    f.mark = some_number_up_to(d, 3);
+    f.resolution = once_in(d, 2) ? (uint32_t)some_resolution(d) : once_in(d, 2) ? (uint32_t)draw(d) : 0;
+    return f;
+}
+
+/* What both calls refuse of a field: 11 if its kind holds no number, then 1 if no number has its width. Else 0. */
+static uint32_t refusal_of(struct number_field f)
+{
+    int is_bytes = f.kind == SAMOPUTE_BINARY && f.width % 8 == 0;
+    int is_a_kind = f.kind <= SAMOPUTE_MMSI || f.kind == SAMOPUTE_BINARY || f.kind == SAMOPUTE_ISO_NAME;
+    if (!is_a_kind || is_bytes) {
+        return 11;
+    }
+    return f.width < 1 || f.width > 64 ? 1 : 0;
+}
+
+/* What a refusal carries: 1 the widest and the width, the others nothing. */
+static void check_carried(uint32_t status, struct number_field f, const uint64_t *cells, size_t count)
+{
+    size_t i;
+    hold(cells[0] == (status == 1 ? 64 : 0), "the widest, of no refusal 1");
+    hold(cells[1] == (status == 1 ? f.width : 0), "a width, of no refusal 1");
+    for (i = 2; i < count; i++) {
+        hold(cells[i] == 0, "more than a refusal carries");
+    }
+}
+
+/* The value of a raw, as a kind and its bits: one at hand where the field is refused. */
+static struct samopute_value scale_round(struct draws *d, struct number_field f, uint64_t raw)
+{
+    struct lent answer = lend(ANSWER, some_noise(d, 32), 32);
+    uint64_t *cells = (uint64_t *)(void *)answer.bytes;
+    struct samopute_value value = samopute_value_of_u64(raw);
+    uint32_t status;
+    this_call = "samopute_scale";
+    status = samopute_scale(f.kind, f.width, f.is_signed, f.mark, f.resolution, raw, cells);
+    tally(answered, status);
+    hold(status == refusal_of(f), "a field that is taken or refused wrongly");
+    if (status == 0) {
+        hold(cells[0] >= 1 && cells[0] <= 10, "a value of no kind");
+        hold(cells[2] <= 1, "an availability that is neither 0 nor 1");
+        value = samopute_value_of((uint8_t)cells[0], cells[1], 0);
+    } else {
+        check_carried(status, f, cells, 4);
+    }
+    take_back(answer);
+    return value;
+}
+
+/* The raw of a value, or of what is none. */
+static uint32_t raw_round(struct draws *d, struct number_field f, uint32_t kind, uint64_t value, uint64_t *raw)
 {
     struct lent answer = lend(ANSWER, some_noise(d, 24), 24);
     uint64_t *cells = (uint64_t *)(void *)answer.bytes;
-    uint32_t kind = some_number_up_to(d, 19);
-    uint32_t width = some_number_up_to(d, 66);
-    uint32_t is_signed = some_number_up_to(d, 1);
-    uint32_t mark = some_number_up_to(d, 3);
-    uint32_t resolution = once_in(d, 2) ? (uint32_t)draw(d) : (uint32_t)some_resolution(d);
-    uint64_t raw = draw(d) >> below(d, 64);
-    uint32_t code, status;
-    this_call = "samopute_scale";
-    code = samopute_scale(kind, width, is_signed, mark, resolution, raw, cells);
-    hold(code >= 1 && code <= 10, "a value of no kind");
-    hold(cells[1] <= 1, "an availability that is neither 0 nor 1");
+    uint32_t refused = refusal_of(f);
+    uint32_t status;
     this_call = "samopute_raw_of";
-    status = samopute_raw_of(kind, width, is_signed, mark, resolution, code, cells[0], cells);
+    status = samopute_raw_of(f.kind, f.width, f.is_signed, f.mark, f.resolution, kind, value, cells);
     tally(answered, status);
-    hold(status == 0 || status == 10 || status == 11, "a status that samopute_raw_of has not");
-    hold(cells[1] == 0 && cells[2] == 0 && (status == 0 || cells[0] == 0), "more than a raw");
-    hold(status != 0 || width >= 64 || kind == SAMOPUTE_FLOAT || cells[0] >> width == 0, "a raw over its width");
-    if (kind == SAMOPUTE_NUMBER && mark != 1 && mark != 2 && width >= 1 && width <= 64) {
-        hold(status == 0 && cells[0] == (width == 64 ? raw : raw & (((uint64_t)1 << width) - 1)), "another raw back");
+    hold(refused != 0 ? status == refused || status == 11 : status == 0 || status == 10 || status == 11,
+         "a status that samopute_raw_of has not");
+    if (status == 0) {
+        hold(cells[1] == 0 && cells[2] == 0, "more than a raw");
+        hold(f.width == 64 || f.kind == SAMOPUTE_FLOAT || cells[0] >> f.width == 0, "a raw over its width");
+        *raw = cells[0];
+    } else {
+        check_carried(status, f, cells, 3);
     }
-    this_call = "samopute_raw_of";
-    status = samopute_raw_of(kind, width, is_signed, mark, resolution, some_number_up_to(d, 12), draw(d), cells);
-    tally(answered, status);
-    hold(status == 0 || status == 10 || status == 11, "a status that samopute_raw_of has not");
     take_back(answer);
+    return status;
+}
+
+/* A raw to its value, and the value back: an unscaled Number comes back as it was, one with a broken mark does not. */
+static void numbers_round(struct draws *d)
+{
+    struct number_field f = some_number_field(d);
+    uint64_t raw = draw(d) >> below(d, 64);
+    struct samopute_value value = scale_round(d, f, raw);
+    uint64_t back = 0;
+    uint32_t status = raw_round(d, f, value.kind, value.value, &back);
+    int is_number = f.kind == SAMOPUTE_NUMBER && refusal_of(f) == 0;
+    hold(refusal_of(f) == 0 || status == refusal_of(f), "a value that is taken before its field");
+    if (is_number && f.mark == 0 && f.resolution == 0) {
+        hold(status == 0 && back == raw << (64 - f.width) >> (64 - f.width), "another raw back");
+    }
+    if (is_number && (f.mark > 2 || (f.mark == 0 && f.resolution != 0))) {
+        hold(value.kind == SAMOPUTE_VALUE_F32 && value.value == 0x7FC00000, "a value by a broken mark");
+        hold(status == 10, "a raw by a broken mark");
+    }
+    raw_round(d, f, some_number_up_to(d, 12), draw(d), &back);
 }
 
 static void check_round(struct draws *d)

@@ -165,8 +165,8 @@ static void choose(struct draws *d)
     numbers[1] = below(d, 19);
     numbers[2] = between(d, 1, 64);
     numbers[3] = below(d, 2);
-    numbers[4] = below(d, 3);
-    numbers[5] = some_resolution(d);
+    numbers[4] = below(d, 4);
+    numbers[5] = numbers[4] == 0 ? 0 : some_resolution(d);
     numbers[6] = draw(d) >> below(d, 64);
     numbers[7] = between(d, 1, 10);
 }

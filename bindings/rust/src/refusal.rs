@@ -155,7 +155,7 @@ pub enum Rule {
     B,
     /// The width is one that the kind takes.
     C,
-    /// A resolution only where one may be, from 2^-64 to 2^20.
+    /// A resolution only where one may be, from 2^-64 to 2^20, and with a mark of its own, single or double; no other mark.
     D,
     /// Signed only where it may be; Date and Mmsi without resolution of 16 or 32 bits.
     E,

@@ -11,6 +11,9 @@ pub(crate) type Answer = [u64; 3];
 pub(crate) type DecodeAnswer = [u64; 6];
 pub(crate) type EncodeAnswer = [u64; 4];
 
+/// What `samopute_scale` lays down, which is one more than the other call on numbers.
+pub(crate) type ScaleAnswer = [u64; 4];
+
 /// A field as the calls on numbers take it.
 #[derive(Clone, Copy)]
 pub(crate) struct RawField {
@@ -22,7 +25,7 @@ pub(crate) struct RawField {
 }
 
 mod c {
-    use super::{Answer, DecodeAnswer, EncodeAnswer, Record};
+    use super::{Answer, DecodeAnswer, EncodeAnswer, Record, ScaleAnswer};
 
     // SAFETY: these are the declarations of include/samopute.h, type by type.
     unsafe extern "C" {
@@ -152,7 +155,7 @@ mod c {
             mark: u32,
             resolution: u32,
             raw: u64,
-            a: *mut Answer,
+            a: *mut ScaleAnswer,
         ) -> u32;
         pub fn samopute_raw_of(
             kind: u32,
@@ -384,8 +387,8 @@ pub(crate) fn bits_remaining(buffer: &[u8], cursor: usize) -> usize {
     unsafe { c::samopute_bits_remaining(buffer.as_ptr(), buffer.len(), cursor) }
 }
 
-pub(crate) fn scale(f: RawField, raw: u64, answer: &mut Answer) -> u32 {
-    // SAFETY: numbers go in, and `answer` has room for three.
+pub(crate) fn scale(f: RawField, raw: u64, answer: &mut ScaleAnswer) -> u32 {
+    // SAFETY: numbers go in, and `answer` has room for four.
     unsafe {
         c::samopute_scale(
             f.kind,
@@ -400,7 +403,7 @@ pub(crate) fn scale(f: RawField, raw: u64, answer: &mut Answer) -> u32 {
 }
 
 pub(crate) fn raw_of(f: RawField, value_kind: u32, value: u64, answer: &mut Answer) -> u32 {
-    // SAFETY: as in `scale`.
+    // SAFETY: numbers go in, and `answer` has room for three.
     unsafe {
         c::samopute_raw_of(
             f.kind,

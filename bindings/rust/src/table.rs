@@ -124,27 +124,35 @@ impl Field {
             | (f.resolution as u64) << 32
     }
 
-    /// The value of a raw. Only as many low bits of the raw as the width count.
+    /// The value of a raw. Only as many low bits of the raw as the width count. A kind that holds no number is refusal 11,
+    /// and a width of 0 or over 64 refusal 1.
     ///
     /// ```
-    /// use samopute::{Field, Kind, Resolution, Value};
+    /// use samopute::{Field, Kind, Refusal, Resolution, Value};
     ///
     /// let speed = Field::new(Kind::Number, 16).scaled(Resolution::Single(0.01));
-    /// assert_eq!(speed.scale(0x98C0).value, Value::F32(39104.0 * 0.01));
+    /// assert_eq!(speed.scale(0x98C0)?.value, Value::F32(39104.0 * 0.01));
+    /// let name = Field::new(Kind::StringFix, 8);
+    /// assert_eq!(name.scale(0).map_err(|refusal| refusal.number()), Err(11));
+    /// # Ok::<(), Refusal>(())
     /// ```
-    pub fn scale(self, raw: u64) -> Scaled {
-        let mut answer = [0; 3];
-        let code = sys::scale(self.parts(), raw, &mut answer);
-        let [bits, silence, elements] = answer;
-        Scaled {
+    pub fn scale(self, raw: u64) -> Result<Scaled, Refusal> {
+        let mut answer = [0; 4];
+        let status = sys::scale(self.parts(), raw, &mut answer);
+        let [code, bits, silence, elements] = answer;
+        if status != 0 {
+            return Err(Refusal::of_call(status, [code, bits, silence]));
+        }
+        Ok(Scaled {
             // The code is that of a number, always.
-            value: Value::number(code, bits).unwrap_or(Value::U64(bits)),
+            value: Value::number(code as u32, bits).unwrap_or(Value::U64(bits)),
             availability: Availability::of(silence),
             elements,
-        }
+        })
     }
 
-    /// The raw of a value, or refusal 10 (out of range) or 11 (a value of another kind).
+    /// The raw of a value, or refusal 10 (out of range) or 11 (a value of another kind, or a field of a kind that holds no
+    /// number), or 1 for a width of 0 or over 64.
     ///
     /// ```
     /// use samopute::{Field, Kind, Refusal, Resolution, Value};

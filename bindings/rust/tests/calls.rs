@@ -1,6 +1,7 @@
 //! The bit cursors, the numbers and the refusals as text.
 use samopute::{
-    Availability, BitReader, BitWriter, Field, Kind, Refusal, Resolution, Rule, Value, BUFFER_MAX,
+    Availability, BitReader, BitWriter, Field, Kind, Refusal, Resolution, Rule, Table, Value,
+    BUFFER_MAX,
 };
 
 #[test]
@@ -170,7 +171,7 @@ fn refusal_6_is_of_a_long_buffer() {
 #[test]
 fn raws_and_values() {
     let twelve = Field::new(Kind::Number, 12).signed();
-    assert_eq!(twelve.scale(0x800).value, Value::I16(-2048));
+    assert_eq!(value_of(twelve, 0x800), Ok(Value::I16(-2048)));
     assert_eq!(twelve.raw_of(Value::I64(-2048)), Ok(0x800));
     assert_eq!(
         twelve.raw_of(Value::I64(-2049)),
@@ -189,12 +190,12 @@ fn raws_and_values() {
     );
 
     let eight = Field::new(Kind::Number, 8);
-    let ones = eight.scale(0xFF);
+    let ones = eight.scale(0xFF).unwrap();
     assert_eq!(
         (ones.value, ones.availability, ones.elements),
         (Value::U8(255), Availability::NotAvailable, 0)
     );
-    assert_eq!(eight.scale(3).elements, 3);
+    assert_eq!(eight.scale(3).unwrap().elements, 3);
     let scaled = eight.signed().scaled(Resolution::Double(1.0));
     assert_eq!(scaled.raw_of(Value::F64(-128.4)), Ok(0x80));
     assert_eq!(
@@ -224,7 +225,70 @@ fn each_value_goes_out_and_comes_back() {
             signed,
             ..Field::new(Kind::Number, width)
         };
-        assert_eq!(field.scale(field.raw_of(value).unwrap()).value, value);
+        assert_eq!(value_of(field, field.raw_of(value).unwrap()), Ok(value));
+    }
+}
+
+/// The value of a raw.
+fn value_of(field: Field, raw: u64) -> Result<Value<'static>, Refusal> {
+    field.scale(raw).map(|scaled| scaled.value)
+}
+
+#[test]
+fn a_field_without_a_number_is_refused() {
+    let kinds = [
+        Kind::Decimal,
+        Kind::StringFix,
+        Kind::StringLz,
+        Kind::StringLau,
+        Kind::Binary,
+        Kind::Reserved,
+        Kind::Spare,
+        Kind::Unimplemented,
+    ];
+    for kind in kinds {
+        for width in [0, 8, 64, 1784] {
+            let field = Field::new(kind, width);
+            let number = |refusal: Refusal| refusal.number();
+            assert_eq!(value_of(field, 0).map_err(number), Err(11));
+            assert_eq!(field.raw_of(Value::U8(0)).map_err(number), Err(11));
+        }
+    }
+    let bits = Field::new(Kind::Binary, 9);
+    assert_eq!(value_of(bits, 0x3FF), Ok(Value::U16(0x1FF)));
+}
+
+#[test]
+fn a_width_of_no_number_is_refused() {
+    for width in [0, 65, 257, u16::MAX] {
+        let field = Field::new(Kind::Number, width);
+        let refusal = Refusal::Width {
+            field: None,
+            maximum: 64,
+            width: width.into(),
+        };
+        assert_eq!(value_of(field, 0), Err(refusal));
+        assert_eq!(field.raw_of(Value::U8(0)), Err(refusal));
+        assert_eq!(field.raw_of(Value::F32(0.0)), Err(refusal));
+    }
+    let twelve = Field::new(Kind::Number, 12);
+    assert_eq!(value_of(twelve, 0x1001), Ok(Value::U16(1)));
+}
+
+#[test]
+fn a_mark_that_is_neither_breaks_rule_d() {
+    let single = Field::new(Kind::Number, 8).scaled(Resolution::Single(0.01));
+    let bits = u64::from(0.01f32.to_bits()) << 32;
+    let bare = Field::new(Kind::Number, 8).word();
+    let skipped = Field::new(Kind::Reserved, 8).word();
+    let broken = |words: &[u64]| Table::new(words).check();
+    assert_eq!(broken(&[1, single.word()]), Ok(()));
+    for word in [single.word() | 3 << 25, bits | bare, bits | skipped] {
+        let refusal = Refusal::TableRefused {
+            rule: Rule::D,
+            index: 0,
+        };
+        assert_eq!(broken(&[1, word]), Err(refusal));
     }
 }
 

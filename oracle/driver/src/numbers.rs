@@ -1,4 +1,5 @@
 //! Numbers: the value of a raw and the raw of a value, by field.
+mod any_fields;
 pub mod case;
 mod cases;
 pub mod compare;

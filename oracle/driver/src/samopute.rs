@@ -109,8 +109,9 @@ pub fn bits_remaining(buffer: &[u8], cursor: usize) -> usize {
     unsafe { c::samopute_bits_remaining(buffer.as_ptr(), buffer.len(), cursor) }
 }
 
-/// A field as the calls on numbers take it: the kinds in the order of the Rust's `FieldKind`; no mark,
-/// single or double; the resolution's bits.
+/// A field as the calls on numbers take it, any numbers: the kinds in the order of the Rust's
+/// `FieldKind`; no mark, single or double; the resolution's bits.
+#[derive(Clone, Copy, Debug, PartialEq, Eq)]
 pub struct CField {
     pub kind: u32,
     pub width: u32,
@@ -118,6 +119,10 @@ pub struct CField {
     pub mark: u32,
     pub resolution: u32,
 }
+
+/// What a scaling fills in: the kind of the value, its bits, whether it is not available, the elements;
+/// or what the refusal carries.
+pub type Scaled = [u64; 4];
 
 mod numbers_c {
     unsafe extern "C" {
@@ -128,7 +133,7 @@ mod numbers_c {
             mark: u32,
             resolution: u32,
             raw: u64,
-            answer: *mut super::Answer,
+            answer: *mut super::Scaled,
         ) -> u32;
 
         pub fn samopute_raw_of(
@@ -144,9 +149,10 @@ mod numbers_c {
     }
 }
 
-/// The kind of the value; its number, whether it is not available, the elements.
-pub fn scale(f: &CField, raw: u64, answer: &mut Answer) -> u32 {
+/// 0, or the refusal.
+pub fn scale(f: &CField, raw: u64, answer: &mut Scaled) -> u32 {
     let call = numbers_c::samopute_scale;
+    // SAFETY: as above, and `answer` has room for four numbers.
     unsafe {
         call(
             f.kind,

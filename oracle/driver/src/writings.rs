@@ -16,7 +16,7 @@ pub mod lines;
 mod made;
 mod oracles;
 mod read_back;
-mod records;
+pub mod records;
 mod rust_only;
 mod sides;
 mod smallest;

@@ -1,5 +1,9 @@
 //! Document 01's rules c to e for one number field, "Raw numbers and floats", and the availability of
 //! "Reading a payload". Whole numbers are `i128`, where none overflows; a float is cut by its bits.
+//!
+//! A field may be any: of a kind without a number, of any width, with a mark that is none. `scale` and
+//! `raw_of` refuse the first two; the third is a factor that is no number.
+use crate::WIDTH_MAX;
 
 /// The kinds of field, in the order of the Rust's `FieldKind`.
 #[derive(Clone, Copy, Debug, PartialEq, Eq, PartialOrd, Ord)]
@@ -25,11 +29,13 @@ pub enum Kind {
     Unimplemented,
 }
 
-/// Whether a scaled value is an f32 or an f64.
+/// Whether a scaled value is an f32 or an f64. Rule d wants one of these with every resolution: another
+/// mark, or none beside a resolution, is broken.
 #[derive(Clone, Copy, Debug, PartialEq, Eq)]
 pub enum Mark {
     Single,
     Double,
+    Broken,
 }
 
 /// A resolution, with its mark.
@@ -39,7 +45,29 @@ pub struct Scale {
     pub resolution: f32,
 }
 
-/// A field of a table that holds a number.
+/// The resolution that a mark's number and a float's bits are. None is no mark and no bits.
+pub fn scale_of(mark: u32, bits: u32) -> Option<Scale> {
+    let resolution = f32::from_bits(bits);
+    let mark = match (mark, bits) {
+        (0, 0) => return None,
+        (1, _) => Mark::Single,
+        (2, _) => Mark::Double,
+        _ => Mark::Broken,
+    };
+    Some(Scale { mark, resolution })
+}
+
+impl Scale {
+    /// What a number is multiplied by. That of a broken mark is no number.
+    fn factor(self) -> f32 {
+        match self.mark {
+            Mark::Single | Mark::Double => self.resolution,
+            Mark::Broken => f32::NAN,
+        }
+    }
+}
+
+/// A field, to be read or written as a number.
 #[derive(Clone, Copy, Debug, PartialEq)]
 pub struct Field {
     pub kind: Kind,
@@ -71,9 +99,11 @@ pub struct Value {
     pub bits: u64,
 }
 
-/// The refusals of a value for a field.
+/// The refusals of a field, or of a value for it.
 #[derive(Clone, Copy, Debug, PartialEq, Eq)]
 pub enum Refusal {
+    /// 1: the width of no number. It carries the widest, too.
+    Width(u32),
     OutOfRange,
     OtherKind,
 }
@@ -82,8 +112,17 @@ impl Refusal {
     /// The paper's number.
     pub fn number(self) -> u32 {
         match self {
+            Refusal::Width(_) => 1,
             Refusal::OutOfRange => 10,
             Refusal::OtherKind => 11,
+        }
+    }
+
+    /// What it carries, then 0.
+    pub fn carried(self) -> [u64; 2] {
+        match self {
+            Refusal::Width(width) => [WIDTH_MAX.into(), width.into()],
+            Refusal::OutOfRange | Refusal::OtherKind => [0, 0],
         }
     }
 }
@@ -135,11 +174,11 @@ impl Value {
 
 /// Whether a table may hold the field as a number: rules b, c, d and e.
 pub fn is_allowed(field: &Field) -> bool {
-    is_number_kind(field) && width_fits(field) && scale_fits(field) && sign_fits(field)
+    holds_number(field) && width_fits(field) && scale_fits(field) && sign_fits(field)
 }
 
 /// The kinds whose raw is a number. A Binary of whole bytes is bytes.
-fn is_number_kind(field: &Field) -> bool {
+fn holds_number(field: &Field) -> bool {
     match field.kind {
         Kind::Binary => !field.width.is_multiple_of(8),
         Kind::Float | Kind::BitLookup => true,
@@ -152,22 +191,39 @@ fn width_fits(field: &Field) -> bool {
     match field.kind {
         Kind::Float => field.width == 32,
         Kind::Date | Kind::Mmsi if field.scale.is_none() => [16, 32].contains(&field.width),
-        _ => (1..=64).contains(&field.width),
+        _ => is_a_width(field.width),
     }
 }
 
-/// Rule d. A NaN is in no range.
+/// The widths of a number.
+fn is_a_width(width: u32) -> bool {
+    (1..=WIDTH_MAX).contains(&width)
+}
+
+/// Rule d. A NaN, which a broken mark is too, is in no range.
 fn scale_fits(field: &Field) -> bool {
     field.scale.is_none_or(|scale| {
-        takes_resolution(field.kind)
-            && (RESOLUTION_MIN..=RESOLUTION_MAX).contains(&scale.resolution)
+        takes_resolution(field.kind) && (RESOLUTION_MIN..=RESOLUTION_MAX).contains(&scale.factor())
     })
 }
 
 /// Rule e.
 fn sign_fits(field: &Field) -> bool {
-    let duration = field.kind == Kind::Duration && field.scale.is_some();
-    !field.signed || is_plain(field.kind) || duration
+    !field.signed || takes_sign(field)
+}
+
+fn takes_sign(field: &Field) -> bool {
+    is_plain(field.kind) || (field.kind == Kind::Duration && field.scale.is_some())
+}
+
+/// Whether the numbers of a field are signed. The sign of a kind that takes none says nothing of them.
+fn is_signed(field: &Field) -> bool {
+    field.signed && takes_sign(field)
+}
+
+/// The resolution of a field. That of a kind that takes none says nothing.
+fn resolution(field: &Field) -> Option<Scale> {
+    field.scale.filter(|_| takes_resolution(field.kind))
 }
 
 /// The first five kinds of rule d.
@@ -208,8 +264,38 @@ pub fn meant(raw: u64, width: u32, signed: bool) -> i128 {
     }
 }
 
-/// Whether a raw of the field says that there is a value.
+/// A field that has no numbers is of another kind than every one: 11. Then its width: 1.
+fn admitted(field: &Field) -> Result<(), Refusal> {
+    if !holds_number(field) {
+        return Err(Refusal::OtherKind);
+    }
+    if !is_a_width(field.width) {
+        return Err(Refusal::Width(field.width));
+    }
+    Ok(())
+}
+
+/// What a raw is: its value, whether it is available, and the elements that it means as a counter.
+#[derive(Clone, Copy, Debug, PartialEq, Eq)]
+pub struct Scaled {
+    pub value: Value,
+    pub available: bool,
+    pub elements: u64,
+}
+
+/// What a raw of any field is.
+pub fn scale(field: &Field, raw: u64) -> Result<Scaled, Refusal> {
+    admitted(field)?;
+    Ok(Scaled {
+        value: value(field, raw),
+        available: is_available(field, raw),
+        elements: elements(field.width, raw),
+    })
+}
+
+/// Whether a raw of a field of 1 to 64 bits says that there is a value, by its low bits.
 pub fn is_available(field: &Field, raw: u64) -> bool {
+    let raw = raw & all_ones(field.width);
     if field.kind == Kind::Float {
         return !f32::from_bits(raw as u32).is_nan();
     }
@@ -223,26 +309,28 @@ pub fn elements(width: u32, raw: u64) -> u64 {
     if raw == all_ones(width) { 0 } else { raw }
 }
 
-/// The value of a raw.
+/// The value of a raw of a field of 1 to 64 bits, by its low bits.
 pub fn value(field: &Field, raw: u64) -> Value {
+    let raw = raw & all_ones(field.width);
     if field.kind == Kind::Float {
         return Value::single(f32::from_bits(raw as u32));
     }
-    let number = meant(raw, field.width, field.signed);
-    match field.scale {
+    let number = meant(raw, field.width, is_signed(field));
+    match resolution(field) {
         Some(scale) => scaled(field.kind, scale, number),
         None => Value::whole(whole_kind(field), number),
     }
 }
 
 /// A number times the resolution. Whole number to float rounds to nearest, ties to even, as Rust's
-/// own casts do.
+/// own casts do. A broken mark is not double.
 fn scaled(kind: Kind, scale: Scale, number: i128) -> Value {
-    let double = number as f64 * f64::from(scale.resolution);
+    let factor = scale.factor();
+    let double = number as f64 * f64::from(factor);
     match (kind, scale.mark) {
         (Kind::Time, _) | (_, Mark::Double) => Value::double(double),
-        (kind, Mark::Single) if is_plain(kind) => Value::single(number as f32 * scale.resolution),
-        (_, Mark::Single) => Value::single(double as f32),
+        (kind, _) if is_plain(kind) => Value::single(number as f32 * factor),
+        _ => Value::single(double as f32),
     }
 }
 
@@ -253,7 +341,7 @@ fn whole_kind(field: &Field) -> ValueKind {
         Kind::Time => 64,
         _ => 8,
     };
-    match (field.width.max(least), field.signed) {
+    match (field.width.max(least), is_signed(field)) {
         (..=8, false) => ValueKind::U8,
         (..=8, true) => ValueKind::I8,
         (..=16, false) => ValueKind::U16,
@@ -265,17 +353,19 @@ fn whole_kind(field: &Field) -> ValueKind {
     }
 }
 
-/// The raw that a value writes into the field.
+/// The raw that a value writes into the field. Order: the field's 11, 1, the value's 11, 10.
 pub fn raw_of(field: &Field, value: Value) -> Result<u64, Refusal> {
-    let number = match (field.kind, field.scale) {
+    admitted(field)?;
+    let signed = is_signed(field);
+    let number = match (field.kind, resolution(field)) {
         (Kind::Float, _) => return float_raw(value),
         (_, Some(scale)) => {
             let value = as_double(value).ok_or(Refusal::OtherKind)?;
-            quantized(value, scale.resolution, field.width, field.signed)
+            quantized(value, scale.factor(), field.width, signed)
         }
         (_, None) => {
-            let number = as_whole(value, field.signed).ok_or(Refusal::OtherKind)?;
-            let (smallest, largest) = limits(field.width, field.signed);
+            let number = as_whole(value, signed).ok_or(Refusal::OtherKind)?;
+            let (smallest, largest) = limits(field.width, signed);
             (smallest <= number && number <= largest).then_some(number)
         }
     };
@@ -283,7 +373,7 @@ pub fn raw_of(field: &Field, value: Value) -> Result<u64, Refusal> {
     Ok(number as u64 & all_ones(field.width))
 }
 
-/// A Float field takes an f32 and writes its bits.
+/// A Float field takes an f32 and writes its bits, all 32 of them whatever its width.
 fn float_raw(value: Value) -> Result<u64, Refusal> {
     if value.kind != ValueKind::F32 {
         return Err(Refusal::OtherKind);

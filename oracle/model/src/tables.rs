@@ -1,6 +1,6 @@
 //! Document 01's "Table rules": a table of fields and repeating sets, how it stands in words, and the
 //! rules a to h, a function for each.
-use crate::numbers::{Kind, Mark, RESOLUTION_MAX, RESOLUTION_MIN, Scale, is_plain};
+use crate::numbers::{Kind, Mark, RESOLUTION_MAX, RESOLUTION_MIN, Scale, is_plain, scale_of};
 use std::ops::Range;
 
 /// A field of any kind. `numbers` has fields that hold numbers only, which always have a width.
@@ -110,18 +110,17 @@ fn quarters(word: u64) -> [usize; 4] {
 fn read_field(word: u64) -> Field {
     let code = (word & 0xFF) as usize;
     let width = (word >> 8 & 0xFFFF) as u32;
-    let mark = match word >> 25 & 3 {
-        1 => Some(Mark::Single),
-        2 => Some(Mark::Double),
-        _ => None,
-    };
-    let resolution = f32::from_bits((word >> 32) as u32);
     Field {
-        kind: KINDS.get(code).copied().unwrap_or(Kind::Unimplemented),
+        kind: kind_of(code),
         width: (width > 0).then_some(width),
         signed: word >> 24 & 1 == 1,
-        scale: mark.map(|mark| Scale { mark, resolution }),
+        scale: scale_of((word >> 25 & 3) as u32, (word >> 32) as u32),
     }
+}
+
+/// A kind by its code. A code that is no kind's is as one that is not there.
+pub fn kind_of(code: usize) -> Kind {
+    KINDS.get(code).copied().unwrap_or(Kind::Unimplemented)
 }
 
 fn read_set(word: u64) -> Set {
@@ -196,14 +195,13 @@ fn width_fits(field: &Field) -> bool {
 }
 
 /// "A resolution only on Number, Lookup, IndirectLookup, Pgn, IsoName, Date, Mmsi, Duration, Time; an
-/// f32 from 2^-64 to 2^20." A NaN is in no range.
+/// f32 from 2^-64 to 2^20. With it a mark, single or double." A NaN is in no range.
 fn rule_d(table: &Table) -> Option<usize> {
-    table.first_field(|field| {
-        field.scale.is_some_and(|scale| {
-            let in_range = (RESOLUTION_MIN..=RESOLUTION_MAX).contains(&scale.resolution);
-            !takes_resolution(field.kind) || !in_range
-        })
-    })
+    let breaks = |field: &Field, scale: Scale| {
+        let in_range = (RESOLUTION_MIN..=RESOLUTION_MAX).contains(&scale.resolution);
+        scale.mark == Mark::Broken || !takes_resolution(field.kind) || !in_range
+    };
+    table.first_field(|field| field.scale.is_some_and(|scale| breaks(field, scale)))
 }
 
 pub fn takes_resolution(kind: Kind) -> bool {

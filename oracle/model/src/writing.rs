@@ -331,6 +331,7 @@ fn made(field: &Field, value: Given, text: &[u8]) -> Result<Made, Unfit> {
 
 fn number(field: &Field, value: Value) -> Result<Made, Unfit> {
     let raw = numbers::raw_of(&number_field(field), value).map_err(|refusal| match refusal {
+        numbers::Refusal::Width(_) => unreachable!("rule c"),
         numbers::Refusal::OutOfRange => Unfit::OutOfRange,
         numbers::Refusal::OtherKind => Unfit::OtherKind,
     })?;

@@ -1,6 +1,7 @@
 //! The comparison on numbers. Each test is one side against another, over every case of one call on
-//! fields of one kind.
-use super::case::{Answer, Call, Case, value_code};
+//! fields of one kind: fields that the table rules allow, of all sides; any fields, of ours and the model.
+use super::any_fields::{self, CODES, Calls};
+use super::case::{Answer, Call, Case, OUTCOMES, kind_name, outcome_name, refused, value_code};
 use super::cases::{Amount, KINDS, fields, raws};
 use super::differences::{LeftOut, Reason, reason};
 use super::oracles;
@@ -10,6 +11,7 @@ use crate::cases::SEED;
 use crate::random::Random;
 use crate::report::Report;
 use model::numbers::{self, Field, Kind, ValueKind};
+use model::tables::kind_of;
 
 const QUICK: Amount = Amount {
     resolutions: 6,
@@ -34,6 +36,60 @@ pub fn run(quick: bool, report: &mut Report) {
         let name = format!("left out with the Rust, {}", reason.text());
         report.line(&name, left_out.outcome(reason));
     }
+    for code in CODES {
+        compare_any(code, amount, &mut random, report);
+    }
+}
+
+/// Any fields of a kind, by its code.
+fn compare_any(code: u32, amount: Amount, random: &mut Random, report: &mut Report) {
+    let kind = kind_of(code as usize);
+    let test = |call: &str, wanted| {
+        let name = kind_name(code);
+        let name = format!("{call} any field of kind {name} against the model");
+        Test::new(name, wanted)
+    };
+    let mut scale = test("scale", with_refusals(kind, any_value_kinds(kind)));
+    let mut raw = test("raw", with_refusals(kind, outcomes(kind)));
+    for passed in any_fields::fields(code, amount, random) {
+        let Calls { raws, values } = any_fields::calls(&passed, amount, random);
+        for (calls, test) in [(raws, &mut scale), (values, &mut raw)] {
+            for call in calls {
+                let case = Case::passed(passed, call);
+                if let Some(ours) = sides::ours(&case) {
+                    test.compare(&case, ours, sides::model(&case));
+                }
+            }
+        }
+    }
+    for test in [scale, raw] {
+        report.line(&test.name, test.outcome());
+    }
+}
+
+/// The kinds of value that the raws of any field have: a Date of a few bits has one that no accepted table
+/// gives.
+fn any_value_kinds(kind: Kind) -> Vec<usize> {
+    let mut all = value_kinds(kind);
+    if matches!(kind, Kind::Date | Kind::Mmsi) {
+        all.extend(value_codes(&[ValueKind::U64, ValueKind::U8]));
+    }
+    all
+}
+
+/// The outcomes of any field: those of its kind, and the refusals of a kind without a number and of a width.
+fn with_refusals(kind: Kind, mut all: Vec<usize>) -> Vec<usize> {
+    let (other, width) = (refused(11), refused(1));
+    if !KINDS.contains(&kind) {
+        return vec![other];
+    }
+    all.push(width);
+    if kind == Kind::Binary {
+        all.push(other);
+    }
+    all.sort_unstable();
+    all.dedup();
+    all
 }
 
 fn compare_kind(
@@ -48,12 +104,12 @@ fn compare_kind(
     for field in fields(kind, amount, random) {
         let asked = Asked::new(&field);
         for number in raws(&field, amount, random) {
-            let call = Call::Scale(number);
-            scale.compare(&Case { field, call }, &asked, left_out);
+            let case = Case::new(field, Call::Scale(number));
+            scale.compare(&case, &asked, left_out);
         }
         for value in values(&field, amount, random) {
-            let call = Call::RawOf(value);
-            raw.compare(&Case { field, call }, &asked, left_out);
+            let case = Case::new(field, Call::RawOf(value));
+            raw.compare(&case, &asked, left_out);
         }
     }
     scale.report(report);
@@ -61,7 +117,7 @@ fn compare_kind(
 }
 
 /// The kinds of value that the raws of a kind of field have.
-fn value_kinds(kind: Kind) -> Vec<u32> {
+fn value_kinds(kind: Kind) -> Vec<usize> {
     use ValueKind::*;
     let kinds: &[ValueKind] = match kind {
         Kind::Float => &[F32],
@@ -71,14 +127,21 @@ fn value_kinds(kind: Kind) -> Vec<u32> {
         Kind::Duration => &[U64, U32, U16, F64, F32],
         _ => &[U64, U32, U16, U8, I64, I32, I16, I8, F64, F32],
     };
-    kinds.iter().map(|&kind| value_code(kind)).collect()
+    value_codes(kinds)
+}
+
+fn value_codes(kinds: &[ValueKind]) -> Vec<usize> {
+    kinds
+        .iter()
+        .map(|&kind| value_code(kind) as usize)
+        .collect()
 }
 
 /// The outcomes of a value for a kind of field. Every f32 is in a Float's range.
-fn outcomes(kind: Kind) -> Vec<u32> {
+fn outcomes(kind: Kind) -> Vec<usize> {
     match kind {
-        Kind::Float => vec![0, 11],
-        _ => vec![0, 10, 11],
+        Kind::Float => vec![0, refused(11)],
+        _ => vec![0, refused(10), refused(11)],
     }
 }
 
@@ -92,7 +155,7 @@ struct Sides {
 }
 
 impl Sides {
-    fn new(call: &str, kind: Kind, wanted: Vec<u32>) -> Sides {
+    fn new(call: &str, kind: Kind, wanted: Vec<usize>) -> Sides {
         let test = |who: &str, against: &str| {
             let name = format!("{who}{call} {kind:?} against {against}");
             Test::new(name, wanted.clone())
@@ -109,7 +172,7 @@ impl Sides {
     fn compare(&mut self, case: &Case, asked: &Asked, left_out: &mut LeftOut) {
         let model = sides::model(case);
         let standin = asked.standin(case);
-        let rust = asked.rust(case, model.values[2]);
+        let rust = asked.rust(case, model.values[3]);
         let ours = sides::ours(case);
         self.model_standin.compare(case, model, standin);
         if let Some(ours) = ours {
@@ -135,24 +198,21 @@ impl Sides {
     }
 }
 
-/// One more than the largest number of an answer that is counted.
-const NUMBERS: usize = 12;
-
 struct Test {
     name: String,
-    /// The numbers that answers have to have, or the test shows nothing.
-    wanted: Vec<u32>,
-    met: [usize; NUMBERS],
+    /// The outcomes that answers have to have, or the test shows nothing.
+    wanted: Vec<usize>,
+    met: [usize; OUTCOMES],
     differing: usize,
     smallest: Option<([u64; 5], String)>,
 }
 
 impl Test {
-    fn new(name: String, wanted: Vec<u32>) -> Test {
+    fn new(name: String, wanted: Vec<usize>) -> Test {
         Test {
             name,
             wanted,
-            met: [0; NUMBERS],
+            met: [0; OUTCOMES],
             differing: 0,
             smallest: None,
         }
@@ -160,9 +220,7 @@ impl Test {
 
     /// The second side is the one that the first is held against.
     fn compare(&mut self, case: &Case, side: Answer, against: Answer) {
-        if let Some(met) = self.met.get_mut(against.number as usize) {
-            *met += 1;
-        }
+        self.met[against.outcome(case)] += 1;
         if side == against {
             return;
         }
@@ -181,29 +239,23 @@ impl Test {
                 self.differing
             ));
         }
-        if let Some(number) = self.wanted.iter().find(|&&n| self.met[n as usize] == 0) {
-            return Err(format!("no case answers {number}"));
+        if let Some(&missed) = self.wanted.iter().find(|&&n| self.met[n] == 0) {
+            return Err(format!("no case answers {}", outcome_name(missed)));
         }
         let outcomes: Vec<String> = (self.wanted.iter())
-            .map(|&number| format!("{number}: {}", self.met[number as usize]))
+            .map(|&outcome| format!("{}: {}", outcome_name(outcome), self.met[outcome]))
             .collect();
         Ok(format!("{cases} cases ({})", outcomes.join(", ")))
     }
 }
 
-/// The case in the form of the sample, and both answers, with the elements of a raw.
+/// The case in the form of the sample, and both answers, with all numbers of each.
 fn difference(case: &Case, side: Answer, against: Answer) -> String {
-    let elements = |answer: Answer| match case.call {
-        Call::Scale(_) => format!(", {} elements", answer.values[2]),
-        Call::RawOf(_) => String::new(),
-    };
     format!(
-        "{}\n  {}{}\n  {}{} is wanted",
+        "{}\n  {}, {side:?}\n  {}, {against:?} is wanted",
         case.line(),
         side.line(case),
-        elements(side),
         against.line(case),
-        elements(against)
     )
 }
 

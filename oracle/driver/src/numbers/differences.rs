@@ -51,6 +51,7 @@ pub fn reason(case: &Case) -> Option<Reason> {
     match case.call {
         Call::Scale(raw) => reading(&case.field, raw),
         Call::RawOf(value) => writing(&case.field, value),
+        Call::RawOfNone { .. } => None,
     }
 }
 

@@ -1,18 +1,24 @@
-//! The sample on numbers: a fixed list of cases and the answers of the oracle with stand-ins, to be
-//! replayed without Rust.
-use super::case::{Answer, Call, Case, is_odd_nan};
+//! The sample on numbers: a fixed list of cases and the answers of the oracle with stand-ins, then fields
+//! that no table may have with the answers of the model, to be replayed without Rust.
+use super::any_fields;
+use super::case::{Answer, Call, Case, field_of, is_odd_nan, value_code};
 use super::cases::{Amount, KINDS, any_field, raws};
 use super::differences::reason;
-use super::sides::Asked;
+use super::sides::{self, Asked};
 use super::values::values;
 use crate::cases::SEED;
 use crate::random::Random;
-use model::numbers::{Field, Kind, Mark, Scale, Value, ValueKind, limits};
+use crate::samopute::CField;
+use model::numbers::{Field, Kind, Mark, Scale, Value, ValueKind, is_allowed, limits};
+use model::tables;
 use std::collections::HashSet;
 
 /// Raws of each kind of field, and values.
 const RAWS: usize = 75;
 const VALUES: usize = 90;
+
+/// Raws and values of each kind, in fields that no table may have.
+const OTHERS: usize = 5;
 
 /// About one raw in so many is the field's largest number, which mostly is not available.
 const LARGEST: usize = 5;
@@ -50,6 +56,15 @@ fn sample() -> Vec<(Case, Answer)> {
             taken.extend(values_of(kind, outcome, share, &mut known, &mut random));
         }
     }
+    let mut others = fixed_others();
+    for kind in tables::KINDS {
+        others.extend(any_others(kind, &mut random));
+    }
+    for case in others {
+        if known.insert(case.line()) {
+            taken.push((case, sides::model(&case)));
+        }
+    }
     taken
 }
 
@@ -59,7 +74,7 @@ fn ask(case: &Case) -> Answer {
     let answer = asked.standin(case);
     if reason(case).is_none() {
         assert_eq!(
-            asked.rust(case, answer.values[2]),
+            asked.rust(case, answer.values[3]),
             answer,
             "{}",
             case.line()
@@ -78,8 +93,7 @@ fn raws_of(kind: Kind, known: &mut HashSet<String>, random: &mut Random) -> Vec<
             let raws = raws(&field, AMOUNT, random);
             random.among(&raws)
         };
-        let call = Call::Scale(raw);
-        let case = Case { field, call };
+        let case = Case::new(field, Call::Scale(raw));
         if known.insert(case.line()) {
             taken.push((case, ask(&case)));
         }
@@ -87,7 +101,7 @@ fn raws_of(kind: Kind, known: &mut HashSet<String>, random: &mut Random) -> Vec<
     taken
 }
 
-/// How many values of a kind of field end in each outcome. Every f32 is in a Float's range.
+/// How many values of a kind of field end in each refusal, or in none. Every f32 is in a Float's range.
 fn shares(kind: Kind) -> Vec<(u32, usize)> {
     let sixth = VALUES / 6;
     match kind {
@@ -111,8 +125,7 @@ fn values_of(
         if is_odd_nan(value) {
             continue;
         }
-        let call = Call::RawOf(value);
-        let case = Case { field, call };
+        let case = Case::new(field, Call::RawOf(value));
         let answer = ask(&case);
         if answer.number == outcome && known.insert(case.line()) {
             taken.push((case, answer));
@@ -157,15 +170,114 @@ fn number(width: u32, signed: bool, mark: Option<Mark>) -> Field {
 }
 
 fn scale(width: u32, signed: bool, mark: Option<Mark>, raw: u64) -> Case {
-    Case {
-        field: number(width, signed, mark),
-        call: Call::Scale(raw),
-    }
+    Case::new(number(width, signed, mark), Call::Scale(raw))
 }
 
 fn raw_of(width: u32, signed: bool, value: Value) -> Case {
-    Case {
-        field: number(width, signed, Some(Mark::Double)),
-        call: Call::RawOf(value),
+    let field = number(width, signed, Some(Mark::Double));
+    Case::new(field, Call::RawOf(value))
+}
+
+/// Kinds without a number, widths of none, marks that are neither, and which of these comes first.
+fn fixed_others() -> Vec<Case> {
+    const SOME: u32 = 0x3C23_D70A;
+    let eight = |kind: Kind| (kind, 8, 0, 0);
+    let wide = |width| (Kind::Number, width, 0, 0);
+    let number = (Kind::Number, 8, 3, SOME);
+    let bytes = |width| (Kind::Binary, width, 0, 0);
+    let time = (Kind::Time, 8, 3, SOME);
+    let small = Value::whole(ValueKind::U8, 0);
+    let float = Value::single(0.0);
+    vec![
+        scale_any(eight(Kind::StringFix), 0),
+        raw_any(eight(Kind::StringFix), small),
+        raw_any(bytes(0), small),
+        raw_any(bytes(8), small),
+        scale_any(bytes(64), 0),
+        scale_any(bytes(9), 0x1FF),
+        scale_any(bytes(65), 0),
+        raw_any(bytes(264), small),
+        raw_any(bytes(257), small),
+        scale_any(wide(0), 0),
+        scale_any(wide(65), 0),
+        scale_any(wide(257), 0),
+        scale_any(wide(u32::MAX), 0),
+        raw_any(wide(0), small),
+        raw_any(wide(257), small),
+        // 1 before the value's 11, and after that of what is no value.
+        raw_any(wide(257), float),
+        none_any(wide(257), ValueKind::U8, 300),
+        none_any(wide(8), ValueKind::U8, 300),
+        none_any(wide(8), ValueKind::I16, 0xFFFF),
+        scale_any(number, 0x2A),
+        scale_any((Kind::Number, 8, 0, SOME), 0xFF),
+        scale_any((Kind::Number, 8, 3, 0), 0),
+        scale_any(time, 1),
+        scale_any((Kind::Duration, 8, 0, 1), 1),
+        raw_any(number, Value::double(0.0)),
+        raw_any(number, Value::whole(ValueKind::I8, 0)),
+        raw_any(number, small),
+        raw_any(time, Value::whole(ValueKind::I64, 1)),
+        // Kinds that take no resolution.
+        scale_any((Kind::BitLookup, 8, 3, SOME), 5),
+        raw_any((Kind::BitLookup, 8, 0, SOME), small),
+        scale_any((Kind::Float, 32, 3, SOME), 0x3F80_0000),
+        // Bits above the width.
+        scale_any((Kind::Number, 12, 0, 0), 0x1001),
+        scale_any((Kind::Float, 16, 0, 0), 0x3F80_3F80),
+        raw_any((Kind::Float, 16, 0, 0), Value::single(1.0)),
+        scale_any(eight(Kind::Date), 0xFF),
+    ]
+}
+
+/// An unsigned field by its kind, width, mark and resolution's bits.
+type Unsigned = (Kind, u32, u32, u32);
+
+fn any((kind, width, mark, resolution): Unsigned, call: Call) -> Case {
+    let passed = CField {
+        kind: kind as u32,
+        width,
+        is_signed: 0,
+        mark,
+        resolution,
+    };
+    Case::passed(passed, call)
+}
+
+fn scale_any(field: Unsigned, raw: u64) -> Case {
+    any(field, Call::Scale(raw))
+}
+
+fn raw_any(field: Unsigned, value: Value) -> Case {
+    any(field, Call::RawOf(value))
+}
+
+fn none_any(field: Unsigned, kind: ValueKind, bits: u64) -> Case {
+    let kind = value_code(kind);
+    any(field, Call::RawOfNone { kind, bits })
+}
+
+/// Fields of a kind that no table may have, as far as a line can name them, with some calls of each.
+fn any_others(kind: Kind, random: &mut Random) -> Vec<Case> {
+    let mut fields = any_fields::fields(kind as u32, AMOUNT, random);
+    fields.retain(|passed| passed.mark <= 3 && !is_allowed(&field_of(passed)));
+    let mut all = Vec::new();
+    for _ in 0..OTHERS {
+        let passed = random.among(&fields);
+        let calls = any_fields::calls(&passed, AMOUNT, random);
+        for calls in [calls.raws, calls.values] {
+            let nameable: Vec<Call> = calls.into_iter().filter(is_nameable).collect();
+            all.push(Case::passed(passed, random.among(&nameable)));
+        }
+    }
+    all
+}
+
+/// Whether a line can name what is asked.
+fn is_nameable(call: &Call) -> bool {
+    match *call {
+        Call::Scale(_) => true,
+        Call::RawOf(value) => !is_odd_nan(value),
+        Call::RawOfNone { kind, .. } => (1..=11).contains(&kind),
     }
 }

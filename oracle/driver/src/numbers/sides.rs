@@ -1,8 +1,12 @@
 //! The same case asked of the four sides: the library under test, the model, the oracle with stand-ins,
-//! and the Rust unchanged.
-use super::case::{Answer, Call, Case};
+//! and the Rust unchanged. The last two speak of fields that the table rules allow.
+use super::case::{Answer, Call, Case, is_odd_nan, value_code};
 use super::oracles::{rust, standin};
-use model::numbers::{self, Field};
+use crate::samopute;
+use crate::sides::UNSET;
+use model::numbers::{self, Field, Refusal};
+
+const NO_VALUE: &str = "what is no value is asked of the library and the model alone";
 
 /// The oracles made ready for a field.
 pub struct Asked {
@@ -25,6 +29,7 @@ impl Asked {
                 Answer::of_scale(value, available, self.standin.elements(raw))
             }
             Call::RawOf(value) => Answer::of_raw(self.standin.raw_of(value)),
+            Call::RawOfNone { .. } => unreachable!("{NO_VALUE}"),
         }
     }
 
@@ -36,6 +41,7 @@ impl Asked {
                 Answer::of_scale(value, available, elements)
             }
             Call::RawOf(value) => Answer::of_raw(self.rust.raw_of(value)),
+            Call::RawOfNone { .. } => unreachable!("{NO_VALUE}"),
         }
     }
 }
@@ -44,37 +50,31 @@ impl Asked {
 pub fn model(case: &Case) -> Answer {
     let field = &case.field;
     match case.call {
-        Call::Scale(raw) => Answer::of_scale(
-            numbers::value(field, raw),
-            numbers::is_available(field, raw),
-            numbers::elements(field.width, raw),
-        ),
-        Call::RawOf(value) => {
-            Answer::of_raw(numbers::raw_of(field, value).map_err(|refusal| refusal.number()))
-        }
+        Call::Scale(raw) => Answer::of_scaled(numbers::scale(field, raw)),
+        Call::RawOf(value) => match numbers::raw_of(field, value) {
+            Ok(raw) => Answer::of_raw(Ok(raw)),
+            Err(refusal) => Answer::of_refusal(refusal),
+        },
+        Call::RawOfNone { .. } => Answer::of_refusal(Refusal::OtherKind),
     }
 }
 
 /// The answer of the library under test, if the case can be passed to it: there is one NaN at its
 /// interface.
 pub fn ours(case: &Case) -> Option<Answer> {
-    use super::case::{is_odd_nan, value_code};
-    use crate::samopute::{self, CField};
-    let scale = case.field.scale;
-    let field = CField {
-        kind: case.field.kind as u32,
-        width: case.field.width,
-        is_signed: case.field.signed.into(),
-        mark: scale.map_or(0, |scale| scale.mark as u32 + 1),
-        resolution: scale.map_or(0, |scale| scale.resolution.to_bits()),
-    };
-    let mut values = [crate::sides::UNSET; 3];
-    let number = match case.call {
-        Call::Scale(raw) => samopute::scale(&field, raw, &mut values),
-        Call::RawOf(value) if is_odd_nan(value) => return None,
-        Call::RawOf(value) => {
-            samopute::raw_of(&field, value_code(value.kind), value.bits, &mut values)
+    let (kind, bits) = match case.call {
+        Call::Scale(raw) => {
+            let mut values = [UNSET; 4];
+            let number = samopute::scale(&case.passed, raw, &mut values);
+            return Some(Answer { number, values });
         }
+        Call::RawOf(value) if is_odd_nan(value) => return None,
+        Call::RawOf(value) => (value_code(value.kind), value.bits),
+        Call::RawOfNone { kind, bits } => (kind, bits),
     };
+    let mut values = [UNSET; 3];
+    let number = samopute::raw_of(&case.passed, kind, bits, &mut values);
+    let [first, second, third] = values;
+    let values = [first, second, third, 0];
     Some(Answer { number, values })
 }

@@ -50,6 +50,21 @@ pub fn with(room: u64, padding: usize, table: Table, payload: &str, wanted: &[&s
         words: pack(&table),
         payload: bytes(payload),
     };
+    worked(case, wanted)
+}
+
+/// By words that no table packs to.
+pub fn by_words(words: &[u64], payload: &str, wanted: &[&str]) -> Worked {
+    let case = Case {
+        room: AMPLE,
+        padding: PADDING,
+        words: words.to_vec(),
+        payload: bytes(payload),
+    };
+    worked(case, wanted)
+}
+
+fn worked(case: Case, wanted: &[&str]) -> Worked {
     let wanted = wanted.iter().map(|line| format!("{line}\n")).collect();
     Worked { case, wanted }
 }

@@ -1,6 +1,6 @@
-//! Worked out by hand: filling, numbers and what is not available, fields cut short, room, and the order of
-//! refusals.
-use super::by_hand::{Worked, reads, with};
+//! Worked out by hand: filling, numbers and what is not available, fields cut short, room, the order of
+//! refusals, and marks.
+use super::by_hand::{Worked, by_words, reads, with};
 use super::case::AMPLE;
 use crate::tables::built_in::{double, field, number, set, signed, single, sized, table};
 use model::numbers::Kind;
@@ -16,6 +16,7 @@ pub fn all() -> Vec<Worked> {
         cut_short(),
         room(),
         order(),
+        marks(),
     ];
     rules.into_iter().flatten().collect()
 }
@@ -288,5 +289,24 @@ fn order() -> Vec<Worked> {
         run(224, fine(), "00*4", &["F 7 224", "D -"]),
         run(0, fine(), "00*4", &["F 7 0", "D -"]),
         run(300, fine(), "", &["F 7 300", "D -"]),
+    ]
+}
+
+/// A mark that is neither single nor double, or a resolution without one, is refused: the number is not
+/// read as if it had none. The unused bits of a field say nothing.
+fn marks() -> Vec<Worked> {
+    const BYTE: u64 = 8 << 8;
+    const SOME: u64 = 0x3C23_D70A << 32;
+    let one = |word, wanted: &[&str]| by_words(&[1, word], "2A", wanted);
+    let refused = ["F 8 d 0", "D -"];
+    let unscaled = ["R 0 - 0 8 A 2A U8 2A", "E 8 1", "D -"];
+    vec![
+        one(SOME | 3 << 25 | BYTE, &refused),
+        one(SOME | BYTE, &refused),
+        one(3 << 25 | BYTE, &refused),
+        one(SOME | BYTE | Kind::Reserved as u64, &refused),
+        one(SOME | BYTE | Kind::StringFix as u64, &refused),
+        by_words(&[2, BYTE, BYTE | 3 << 25], "2A", &["F 8 d 1", "D -"]),
+        one(0x1F << 27 | BYTE, &unscaled),
     ]
 }

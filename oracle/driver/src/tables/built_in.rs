@@ -42,6 +42,13 @@ pub fn double(field: Field, resolution: f32) -> Field {
     Field { scale, ..field }
 }
 
+/// With a mark that is neither single nor double.
+pub fn mismarked(field: Field, resolution: f32) -> Field {
+    let mark = Mark::Broken;
+    let scale = Some(Scale { mark, resolution });
+    Field { scale, ..field }
+}
+
 pub fn set(start: usize, size: usize, counter: usize, maximum: usize) -> Set {
     Set {
         start,

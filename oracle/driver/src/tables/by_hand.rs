@@ -2,7 +2,7 @@
 //! least, of which the second is of a later rule, or of the same rule at a higher index. One of a later
 //! rule mostly stands before the first, so that going by the index would be caught.
 use super::built_in::{
-    all as built_in, bare, double, field, number, set, signed, single, sized, table,
+    all as built_in, bare, double, field, mismarked, number, set, signed, single, sized, table,
 };
 use super::compare::{Answer, hex};
 use super::words::{head, pack};
@@ -95,6 +95,7 @@ fn rule_b() -> Vec<Case> {
             &[],
         ),
         broken('b', 1, &[bare(Kind::StringLz), decimal], &[set(1, 1, 1, 0)]),
+        broken('b', 1, &[mismarked(number(8), 1.0), decimal], &[]),
     ]
 }
 
@@ -128,6 +129,7 @@ fn rule_c() -> Vec<Case> {
             &[],
         ),
         broken('c', 0, &[text(4), number(8)], &[set(1, 1, 0, 0)]),
+        broken('c', 1, &[mismarked(number(8), 1.0), number(65)], &[]),
     ]
 }
 
@@ -166,6 +168,29 @@ fn rule_d() -> Vec<Case> {
             0,
             &[double(field(Kind::Binary, 7), 1.0), single(number(8), 0.0)],
             &[],
+        ),
+        // A mark that is neither, whatever the kind and the resolution.
+        broken('d', 1, &[signed_gap, mismarked(number(8), 0.01)], &[]),
+        broken('d', 1, &[field(Kind::Mmsi, 8), mismarked(lookup, 0.0)], &[]),
+        broken(
+            'd',
+            1,
+            &[
+                bare(Kind::StringLz),
+                mismarked(field(Kind::Reserved, 8), 1.0),
+            ],
+            &[],
+        ),
+        broken('d', 0, &[mismarked(bits, 0.0), single(bits, 1.0)], &[]),
+        broken(
+            'd',
+            1,
+            &[
+                number(8),
+                mismarked(bare(Kind::StringLau), 1.0),
+                mismarked(number(8), 1.0),
+            ],
+            &[set(1, 1, 1, 0)],
         ),
     ]
 }
@@ -309,8 +334,8 @@ fn accepted() -> Vec<Case> {
     all
 }
 
-/// Missing words are 0, codes beyond the last are no kind, the marks 0 and 3 are none, and words that
-/// are left over say nothing.
+/// Missing words are 0, codes beyond the last are no kind, resolutions stand under no mark or under 3, and
+/// words that are left over say nothing.
 fn missing_and_unused() -> Vec<Case> {
     const BYTE: u64 = 8 << 8;
     let case = |words: &[u64], answer| Case {
@@ -325,10 +350,36 @@ fn missing_and_unused() -> Vec<Case> {
         case(&[head(2, 0, 0, 0), 0, BYTE | 19], Err(('b', 1))),
         case(&[head(2, 0, 0, 0), 255, BYTE | 19], Err(('b', 0))),
         case(
-            &[head(1, 0, 0, 0), BYTE | 3 << 25 | 0x7FC0_0000 << 32],
-            Ok(()),
+            &[head(1, 0, 0, 0), BYTE | 3 << 25 | 0x3C23_D70A << 32],
+            Err(('d', 0)),
         ),
-        case(&[head(1, 0, 0, 0), BYTE | 0xFF80_0000 << 32], Ok(())),
+        case(
+            &[head(1, 0, 0, 0), BYTE | 3 << 25 | 0x7FC0_0000 << 32],
+            Err(('d', 0)),
+        ),
+        case(&[head(1, 0, 0, 0), BYTE | 3 << 25], Err(('d', 0))),
+        case(&[head(1, 0, 0, 0), BYTE | 0x3C23_D70A << 32], Err(('d', 0))),
+        case(&[head(1, 0, 0, 0), BYTE | 0xFF80_0000 << 32], Err(('d', 0))),
+        case(&[head(1, 0, 0, 0), BYTE | 1 << 63], Err(('d', 0))),
+        case(&[head(1, 0, 0, 0), BYTE | 1 << 32], Err(('d', 0))),
+        // On a Reserved, and on a StringLz that is not the last field.
+        case(&[head(1, 0, 0, 0), BYTE | 15 | 1 << 32], Err(('d', 0))),
+        case(&[head(2, 0, 0, 0), 12 | 1 << 32, BYTE], Err(('d', 0))),
+        // Before the counter of a set is looked at, and after a kind and a width.
+        case(
+            &[
+                head(2, 1, 0, 0),
+                BYTE | 0x3F80_0000 << 32,
+                BYTE,
+                1 | 1 << 16 | 1 << 48,
+            ],
+            Err(('d', 0)),
+        ),
+        case(
+            &[head(2, 0, 0, 0), BYTE | 1 << 32, BYTE | 10],
+            Err(('b', 1)),
+        ),
+        case(&[head(2, 0, 0, 0), BYTE | 3 << 25, 0], Err(('c', 1))),
         case(&[head(1, 0, 0, 0), BYTE | 0x1F << 27, 10, u64::MAX], Ok(())),
     ]
 }

@@ -27,7 +27,7 @@ pub fn single_fields(widths: u64, each: &mut dyn FnMut(&[u64])) {
     }
 }
 
-/// The marks 0 and 3 are none, so that their resolution says nothing.
+/// Under mark 0 only a resolution without bits is none, and under 3 there is none.
 fn signs_and_scales() -> impl Iterator<Item = u64> {
     let scales = (0..4).flat_map(|mark| RESOLUTIONS.map(|resolution| (mark, resolution)));
     scales.flat_map(|(mark, resolution)| {

@@ -82,6 +82,7 @@ pub fn field_word(field: &Field) -> u64 {
         let mark = match scale.mark {
             Mark::Single => 1,
             Mark::Double => 2,
+            Mark::Broken => 3,
         };
         put(&mut word, MARK, mark);
         put(&mut word, RESOLUTION, scale.resolution.to_bits().into());
@@ -100,16 +101,11 @@ pub fn pack(table: &Table) -> Vec<u64> {
     words
 }
 
-/// Fills what says nothing in the words of a table: bits without a meaning, the resolution of a field
-/// without a mark, whose mark may be 3 too, and words after the last.
+/// Fills what says nothing in the words of a table: bits without a meaning, and words after the last.
 pub fn fill_unused(words: &mut Vec<u64>, random: &mut Random) {
     let fields = get(words[0], QUARTERS[0]) as usize;
     for word in &mut words[1..=fields] {
         put(word, UNUSED, random.next());
-        if get(*word, MARK) == 0 {
-            put(word, MARK, random.among(&[0, 3]));
-            put(word, RESOLUTION, random.next());
-        }
     }
     if random.up_to(3) == 0 {
         words.extend((0..random.up_to(3)).map(|_| random.next()));

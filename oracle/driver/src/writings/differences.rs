@@ -132,10 +132,7 @@ fn is_of_width(field: &Field, length: u64) -> bool {
 }
 
 fn of_number(field: &Field, value: Value) -> Option<Reason> {
-    let case = number::Case {
-        field: number_field(field),
-        call: Call::RawOf(value),
-    };
+    let case = number::Case::new(number_field(field), Call::RawOf(value));
     match reason(&case)? {
         numbers::Reason::LookupWritten => Some(Reason::LookupWritten),
         numbers::Reason::UnitResolution => Some(Reason::UnitResolution),

@@ -67,6 +67,15 @@ pub fn all_given(bytes: &[u8]) -> Vec<Given> {
     bytes.chunks(RECORD).map(given).collect()
 }
 
+/// Whether there is such a kind and 64 bits are a value of it. Any are a place of bytes.
+pub fn is_value(code: u32, bits: u64) -> bool {
+    match VALUE_KINDS.iter().find(|&&kind| value_code(kind) == code) {
+        Some(ValueKind::Bytes) => true,
+        Some(&kind) => is_of(kind, bits),
+        None => false,
+    }
+}
+
 /// Whether 64 bits are a number of the kind: none is cut to its low bits.
 fn is_of(kind: ValueKind, bits: u64) -> bool {
     match kind {

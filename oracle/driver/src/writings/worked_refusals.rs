@@ -1,6 +1,8 @@
 //! Worked out by hand: each refusal with a smallest input, and which of two comes first.
 use super::by_hand::{Worked, byte, double, encoded, lends, of, single, text, whole, writes};
-use crate::tables::built_in::{self, bare, field, number, set, signed, table, table_129026};
+use crate::tables::built_in::{
+    self, bare, field, mismarked, number, set, signed, table, table_129026,
+};
 use model::numbers::{Kind, ValueKind};
 use model::tables::{Field, Table};
 
@@ -41,6 +43,7 @@ fn before_the_walk() -> Vec<Worked> {
         writes(0, of(&[]), &[], "F 8 a 0", ""),
         writes(2, of(&[field(Kind::Decimal, 8)]), &[], "F 8 b 0", "A5A5"),
         writes(1, of(&[number(8), number(65)]), &[], "F 8 c 1", "A5"),
+        writes(1, of(&[mismarked(number(8), 1.0)]), &[], "F 8 d 0", "A5"),
         writes(1, of(&[bare(LZ), number(8)]), &[], "F 8 f 0", "A5"),
         writes(1, counted(0), &[byte(0)], "F 8 g 0", "A5"),
     ]
