@@ -314,10 +314,10 @@ uint32_t samopute_scale(uint32_t kind, uint32_t width, uint32_t is_signed, uint3
                         uint64_t raw, uint64_t answer[4]);
 
 /*
- * The raw of a value: answer[0], then 0. First of all, 11 if `value` is no value of its kind (300 as an U8, 0xFFFF as
- * an I16) or there is no such kind: nothing is cut to low bits. After the field's refusals, 11 if the field takes no
- * such value, and 10 if it is out of range, as every float and signed integer is where the factor is no number. 10 and
- * 11 lay down 0. The raw of a Float has 32 bits, whatever its width.
+ * The raw of a value: answer[0], then 0. First of all, 11 if `value` is no number of its kind (300 as an U8, 0xFFFF as
+ * an I16) or its kind is that of no number (bytes, or none): nothing is cut to low bits. After the field's refusals, 11
+ * if the field takes no such value, and 10 if it is out of range, as every float and signed integer is where the factor
+ * is no number. 10 and 11 lay down 0. The raw of a Float has 32 bits, whatever its width.
  */
 uint32_t samopute_raw_of(uint32_t kind, uint32_t width, uint32_t is_signed, uint32_t mark, uint32_t resolution,
                          uint32_t value_kind, uint64_t value, uint64_t answer[3]);

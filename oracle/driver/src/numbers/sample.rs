@@ -1,6 +1,6 @@
 //! The sample on numbers: a fixed list of cases and the answers of the oracle with stand-ins, then fields
 //! that no table may have with the answers of the model, to be replayed without Rust.
-use super::any_fields;
+use super::any_fields::{self, CODES};
 use super::case::{Answer, Call, Case, field_of, is_odd_nan, value_code};
 use super::cases::{Amount, KINDS, any_field, raws};
 use super::differences::reason;
@@ -10,7 +10,6 @@ use crate::cases::SEED;
 use crate::random::Random;
 use crate::samopute::CField;
 use model::numbers::{Field, Kind, Mark, Scale, Value, ValueKind, is_allowed, limits};
-use model::tables;
 use std::collections::HashSet;
 
 /// Raws of each kind of field, and values.
@@ -57,8 +56,8 @@ fn sample() -> Vec<(Case, Answer)> {
         }
     }
     let mut others = fixed_others();
-    for kind in tables::KINDS {
-        others.extend(any_others(kind, &mut random));
+    for code in CODES {
+        others.extend(any_others(code, &mut random));
     }
     for case in others {
         if known.insert(case.line()) {
@@ -212,6 +211,8 @@ fn fixed_others() -> Vec<Case> {
         scale_any(number, 0x2A),
         scale_any((Kind::Number, 8, 0, SOME), 0xFF),
         scale_any((Kind::Number, 8, 3, 0), 0),
+        scale_any((Kind::Number, 8, 4, SOME), 0),
+        scale_any((Kind::Number, 8, 257, SOME), 0),
         scale_any(time, 1),
         scale_any((Kind::Duration, 8, 0, 1), 1),
         raw_any(number, Value::double(0.0)),
@@ -257,10 +258,10 @@ fn none_any(field: Unsigned, kind: ValueKind, bits: u64) -> Case {
     any(field, Call::RawOfNone { kind, bits })
 }
 
-/// Fields of a kind that no table may have, as far as a line can name them, with some calls of each.
-fn any_others(kind: Kind, random: &mut Random) -> Vec<Case> {
-    let mut fields = any_fields::fields(kind as u32, AMOUNT, random);
-    fields.retain(|passed| passed.mark <= 3 && !is_allowed(&field_of(passed)));
+/// Fields of a kind that no table may have, by its code, with some calls of each.
+fn any_others(code: u32, random: &mut Random) -> Vec<Case> {
+    let mut fields = any_fields::fields(code, AMOUNT, random);
+    fields.retain(|passed| !is_allowed(&field_of(passed)));
     let mut all = Vec::new();
     for _ in 0..OTHERS {
         let passed = random.among(&fields);

@@ -4,7 +4,7 @@ use super::case::{Answer, Call, Case, is_odd_nan, value_code};
 use super::oracles::{rust, standin};
 use crate::samopute;
 use crate::sides::UNSET;
-use model::numbers::{self, Field, Refusal};
+use model::numbers::{self, Field, Refusal, ValueKind};
 
 const NO_VALUE: &str = "what is no value is asked of the library and the model alone";
 
@@ -46,11 +46,14 @@ impl Asked {
     }
 }
 
-/// Document 01's answer.
+/// Document 01's answer. At the interface bytes are of no kind: a kind and 64 bits are not all that they are.
 pub fn model(case: &Case) -> Answer {
     let field = &case.field;
     match case.call {
         Call::Scale(raw) => Answer::of_scaled(numbers::scale(field, raw)),
+        Call::RawOf(value) if value.kind == ValueKind::Bytes => {
+            Answer::of_refusal(Refusal::OtherKind)
+        }
         Call::RawOf(value) => match numbers::raw_of(field, value) {
             Ok(raw) => Answer::of_raw(Ok(raw)),
             Err(refusal) => Answer::of_refusal(refusal),
