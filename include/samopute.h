@@ -27,8 +27,8 @@ extern "C" {
 /* ---- Numbers and names ------------------------------------------------------------------------------------------- */
 
 /* The version that this header describes. samopute_version() answers that of the library. */
-#define SAMOPUTE_VERSION_MAJOR 1
-#define SAMOPUTE_VERSION_MINOR 2
+#define SAMOPUTE_VERSION_MAJOR 2
+#define SAMOPUTE_VERSION_MINOR 0
 #define SAMOPUTE_VERSION (SAMOPUTE_VERSION_MAJOR * 65536 + SAMOPUTE_VERSION_MINOR)
 
 /* Sizes, in bytes unless they say otherwise. */
@@ -55,6 +55,9 @@ extern "C" {
  * decode, 2, 3, 5, 7, 8, 10 to 13 and 15 those of encode. In decode and encode 2 and 3 carry the field first. 1 is that
  * of the calls on numbers too, as in a bit call, and 11 that of samopute_scale, where it carries nothing. 10 and 11
  * are those of samopute_raw_of too, where they carry nothing. 14 is of the programs: no call of this header answers it.
+ *
+ * Refusal 2 counts bits in an encode and in the bit calls on numbers, bytes in the slice calls, and in a decode what
+ * answer[5] says: enum samopute_unit.
  */
 enum samopute_status {
     SAMOPUTE_DONE = 0,              /* no refusal */
@@ -73,6 +76,13 @@ enum samopute_status {
     SAMOPUTE_TEXT_TOO_LONG = 13,    /* text too long, Binary not of its width, or bytes past the lent text: field */
     SAMOPUTE_MALFORMED_LINE = 14,   /* program line malformed */
     SAMOPUTE_UNKNOWN_PGN = 15       /* a PGN that is not built in: the PGN */
+};
+
+/* What refusal 2 of a decode counts: how many bits one of it is. Asked and available are in the same unit. */
+enum samopute_unit {
+    SAMOPUTE_UNIT_NONE = 0, /* no refusal 2 */
+    SAMOPUTE_UNIT_BITS = 1, /* asked: those of the field, or of a text's length or encoding byte */
+    SAMOPUTE_UNIT_BYTES = 8 /* asked: where the text or the bytes would end in the working payload */
 };
 
 /* The rules that a table is held to, a to h, as refusal 8 carries them. */
@@ -178,20 +188,22 @@ uint32_t samopute_version(void);
  *            (readings_length - 8) / 64 readings, and for none under 8 bytes, where the count is not written either.
  *            Every byte after the last record is kept.
  * answer[0]  the count of readings
- * answer[1]  1 if the working payload is the front of the padding run, 0 if it is the received payload
+ * answer[1]  0 if the working payload is the received one; else it is the front of the padding run, and this is its
+ *            length in bytes. samopute_working_payload and samopute_working_length, below, go by it.
  * answer[2], answer[3], answer[4]
  *            the end in bits, 0, 0; or what the refusal carries, then 0
+ * answer[5]  what refusal 2 counts: 1 if bits, 8 if bytes (enum samopute_unit); 0 where the status is not 2
  *
  * Refusals 7 and 8 (and 15) touch neither padding nor readings, and answer[0] and answer[1] are 0. Any other refusal
  * leaves the readings made before it, with their count.
  */
 uint32_t samopute_decode(const uint64_t *words, size_t word_count, const uint8_t *payload, size_t payload_length,
                          uint8_t *padding, size_t padding_length, uint8_t *readings, size_t readings_length,
-                         uint64_t answer[5]);
+                         uint64_t answer[6]);
 
 /* The same by a built-in table, that of PGN 129025, 129026, 129029 or 130900. Any other PGN is refusal 15. */
 uint32_t samopute_decode_pgn(uint32_t pgn, const uint8_t *payload, size_t payload_length, uint8_t *padding,
-                             size_t padding_length, uint8_t *readings, size_t readings_length, uint64_t answer[5]);
+                             size_t padding_length, uint8_t *readings, size_t readings_length, uint64_t answer[6]);
 
 struct samopute_reading; /* below */
 
@@ -203,14 +215,14 @@ struct samopute_reading; /* below */
  *            structs, so for none with a room of 0. Every struct after the last reading is kept.
  * answer[0]  the count of readings: it stands nowhere else
  *
- * Refusals 7 and 8 touch neither padding nor readings. Since 1.2.
+ * Refusals 7 and 8 touch neither padding nor readings.
  *
  * It is in a library of its own, libsamopute_run.a. samopute_decode is some three times as fast: where time counts,
  * lend it SAMOPUTE_READINGS, below, which is read as it is too.
  */
 uint32_t samopute_decode_run(const uint64_t *words, size_t word_count, const uint8_t *payload, size_t payload_length,
                              uint8_t *padding, size_t padding_length, struct samopute_reading *readings, size_t room,
-                             uint64_t answer[5]);
+                             uint64_t answer[6]);
 
 /*
  * Writes values by a table, into all of `payload`. Answers 0, or the number of the refusal.
@@ -416,10 +428,16 @@ static inline void samopute_reading_at(const uint8_t *readings, size_t i, struct
 }
 
 /* The payload that the readings stand in: the received one, or the filled one at the front of the padding run. */
-static inline const uint8_t *samopute_working_payload(const uint64_t answer[5], const uint8_t *payload,
+static inline const uint8_t *samopute_working_payload(const uint64_t answer[6], const uint8_t *payload,
                                                       const uint8_t *padding)
 {
     return answer[1] ? padding : payload;
+}
+
+/* Its length in bytes. */
+static inline size_t samopute_working_length(const uint64_t answer[6], size_t payload_length)
+{
+    return answer[1] ? (size_t)answer[1] : payload_length;
 }
 
 /* A value's bits as the number that they are: two's complement, or the pattern of an f64 or an f32. */
@@ -555,8 +573,15 @@ static inline struct samopute_value samopute_value_of_lau(uint64_t first, uint64
 }
 
 /*
- * The value that was read, to be written again. Lend the payload that the readings stand in (samopute_working_payload)
- * as the text, and another buffer as the payload.
+ * The value that was read, to be written again. Lend the payload that the readings stand in (samopute_working_payload,
+ * of samopute_working_length bytes) as the text, and another buffer as the payload.
+ *
+ * The raw that is written may be another one than was read, since a scaled number is written by its value, which a
+ * float may have rounded. Single numbers: 16777217 in 25 bits at a resolution of 1 is written as 16777216, and 13107201
+ * in 24 bits at 0.01 as 13107200. Double ones: 4503599627370497 in a latitude of 64 bits at 1e-16 as 4503599627370498.
+ * A rounded value may also be out of its field's range, refusal 10: 4294967295 in 32 bits, single at 1. A Float that is
+ * a NaN is written as 0x7FC00000. Where a raw must stay as it was, put `raw` over the field's bits with
+ * samopute_write_u64 after the encode.
  */
 static inline struct samopute_value samopute_value_of_reading(const struct samopute_reading *reading)
 {

@@ -75,6 +75,8 @@ static const uint64_t mismarked[] = {SAMOPUTE_HEAD(1, 0, 0, 0), SAMOPUTE_FIELD(S
 END
     make_values
     make_in_place
+    make_filled
+    make_units
     cat <<'END'
 int main(void)
 {
@@ -115,11 +117,13 @@ int main(void)
     if (samopute_check(mismarked, 2, answer) != SAMOPUTE_TABLE_REFUSED || answer[0] != SAMOPUTE_RULE_D || answer[1] != 0) {
         return 30;
     }
-    if (SAMOPUTE_VERSION != 65538 || samopute_version() != SAMOPUTE_VERSION) {
+    if (SAMOPUTE_VERSION != 131072 || samopute_version() != SAMOPUTE_VERSION) {
         return 13;
     }
     wrong = values();
-    return wrong != 0 ? wrong : in_place();
+    wrong = wrong != 0 ? wrong : in_place();
+    wrong = wrong != 0 ? wrong : filled();
+    return wrong != 0 ? wrong : units();
 }
 END
 }
@@ -145,7 +149,7 @@ static int values(void)
     struct samopute_reading reading;
     uint8_t records[SAMOPUTE_VALUES_LENGTH(6)], readings[SAMOPUTE_READINGS_LENGTH(6)];
     uint8_t padding[SAMOPUTE_PADDING_LENGTH], payload[23], again[23];
-    uint64_t answer[4], decoded[5];
+    uint64_t answer[4], decoded[6];
     size_t i;
     as_they_are[0] = samopute_value_of_u64(0x0102030405060708);
     as_they_are[1] = samopute_value_of_i64(-3);
@@ -194,7 +198,7 @@ static int in_place(void)
     const struct samopute_reading *r = &buffer.readings[1];
     struct samopute_reading run[4];
     uint8_t padding[SAMOPUTE_PADDING_LENGTH];
-    uint64_t answer[5];
+    uint64_t answer[6];
     double number = 0;
     if (samopute_decode(table, 4, payload, 5, padding, sizeof padding, (uint8_t *)&buffer, sizeof buffer, answer) !=
             0 || answer[0] != 3 || buffer.count != 3) {
@@ -217,6 +221,96 @@ static int in_place(void)
     if (samopute_decode_run(table, 4, payload, 5, padding, sizeof padding, run, 2, answer) != SAMOPUTE_NO_ROOM ||
         answer[0] != 2 || answer[2] != 1 || run[2].field != 0x5A5A5A5A5A5A5A5A) {
         return 18;
+    }
+    return 0;
+}
+END
+}
+
+# A payload that is filled, read, and written again: its text stands past the bytes that were received.
+make_filled() {
+    cat <<'END'
+static int filled(void)
+{
+    static const uint64_t words[] = {
+        SAMOPUTE_HEAD(2, 0, 2, 1),
+        SAMOPUTE_FIELD(SAMOPUTE_NUMBER, 8, 0, SAMOPUTE_MARK_NONE, 0),
+        SAMOPUTE_FIELD(SAMOPUTE_STRING_FIX, 8, 0, SAMOPUTE_MARK_NONE, 0),
+    };
+    static const uint8_t received[1] = {1}, wanted[2] = {1, 0xFF};
+    uint8_t padding[SAMOPUTE_PADDING_LENGTH], payload[2];
+    uint8_t readings[SAMOPUTE_READINGS_LENGTH(2)], records[SAMOPUTE_VALUES_LENGTH(2)];
+    struct samopute_reading reading;
+    uint64_t answer[6], written[4];
+    const uint8_t *working;
+    size_t i;
+    if (samopute_decode(words, 3, received, 1, padding, sizeof padding, readings, sizeof readings, answer) != 0 ||
+        answer[0] != 2 || answer[1] != 2 || answer[2] != 16) {
+        return 19;
+    }
+    working = samopute_working_payload(answer, received, padding);
+    if (working != padding || samopute_working_length(answer, 1) != 2) {
+        return 20;
+    }
+    for (i = 0; i < 2; i++) {
+        samopute_reading_at(readings, i, &reading);
+        samopute_put_value(records, i, samopute_value_of_reading(&reading));
+    }
+    if (samopute_encode(words, 3, records, sizeof records, working, samopute_working_length(answer, 1), payload, 2,
+                        written) != 0 || written[0] != 2 || memcmp(payload, wanted, 2) != 0) {
+        return 21;
+    }
+    /* The received length is another one: the text would lie past it. */
+    if (samopute_encode(words, 3, records, sizeof records, working, 1, payload, 2, written) != SAMOPUTE_TEXT_TOO_LONG) {
+        return 22;
+    }
+    if (samopute_decode(words, 3, wanted, 2, padding, sizeof padding, readings, sizeof readings, answer) != 0 ||
+        answer[1] != 0 || samopute_working_payload(answer, wanted, padding) != wanted ||
+        samopute_working_length(answer, 2) != 2) {
+        return 23;
+    }
+    return 0;
+}
+END
+}
+
+# Refusal 2 tells whether it counts bits or bytes: two of them that carry the same numbers.
+make_units() {
+    cat <<'END'
+static int unit_of(uint64_t first_width, const uint8_t *payload, size_t length, uint64_t unit)
+{
+    uint64_t words[3], answer[6];
+    uint8_t padding[SAMOPUTE_PADDING_LENGTH], readings[SAMOPUTE_READINGS_LENGTH(2)];
+    struct samopute_reading run[2];
+    words[0] = SAMOPUTE_HEAD(2, 0, 0, 0);
+    words[1] = SAMOPUTE_FIELD(SAMOPUTE_NUMBER, first_width, 0, SAMOPUTE_MARK_NONE, 0);
+    words[2] = SAMOPUTE_FIELD(SAMOPUTE_STRING_LAU, 0, 0, SAMOPUTE_MARK_NONE, 0);
+    if (samopute_decode(words, 3, payload, length, padding, sizeof padding, readings, sizeof readings, answer) !=
+            SAMOPUTE_BEYOND || answer[2] != 1 || answer[3] != 8 || answer[4] != 7 || answer[5] != unit) {
+        return 0;
+    }
+    memset(answer, 0x5A, sizeof answer);
+    return samopute_decode_run(words, 3, payload, length, padding, sizeof padding, run, 2, answer) ==
+               SAMOPUTE_BEYOND && answer[3] == 8 && answer[4] == 7 && answer[5] == unit;
+}
+static int units(void)
+{
+    static const uint8_t none[1] = {0}, texts[7] = {0, 7, 1, 'A', 'B', 'C', 'D'}, short_frame[1] = {0x2A};
+    uint8_t padding[SAMOPUTE_PADDING_LENGTH], readings[SAMOPUTE_READINGS_LENGTH(1)];
+    uint64_t answer[6];
+    if (!unit_of(1, none, 1, SAMOPUTE_UNIT_BITS) || !unit_of(8, texts, 7, SAMOPUTE_UNIT_BYTES)) {
+        return 24;
+    }
+    /* 129029 ends before its date. */
+    if (samopute_decode_pgn(129029, short_frame, 1, padding, sizeof padding, readings, sizeof readings, answer) !=
+            SAMOPUTE_BEYOND || answer[2] != 1 || answer[3] != 16 || answer[4] != 0 ||
+        answer[5] != SAMOPUTE_UNIT_BITS) {
+        return 25;
+    }
+    /* 129026 ends before its COG reference: refusal 4 counts nothing. */
+    if (samopute_decode_pgn(129026, short_frame, 1, padding, sizeof padding, readings, sizeof readings, answer) !=
+            SAMOPUTE_CUT_SHORT || answer[5] != SAMOPUTE_UNIT_NONE) {
+        return 26;
     }
     return 0;
 }

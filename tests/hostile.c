@@ -42,6 +42,10 @@ static uint64_t run_decoded[16];
 static uint64_t encoded[16];
 static uint64_t answered[16];
 
+/* How often refusal 2 of a decode counted bits, and bytes. */
+static uint64_t beyond_bits;
+static uint64_t beyond_bytes;
+
 /* ---- What is told ------------------------------------------------------------------------------------------------ */
 
 static void put(const char *text)
@@ -165,7 +169,7 @@ static struct arena open_arena(size_t least)
 static void open_arenas(void)
 {
     static const size_t sizes[ARENAS] = {WORDS_MAX * 8, PAYLOAD_MOST, PAYLOAD_MOST,
-                                         READINGS_MOST, 5 * 8,        BITS_MOST,
+                                         READINGS_MOST, 6 * 8,        BITS_MOST,
                                          BITS_MOST,     SAMOPUTE_VALUES_LENGTH(VALUES_MOST), TEXT_MOST};
     struct draws d = draws_of(seed, UINT64_MAX);
     size_t i;
@@ -231,7 +235,7 @@ struct decode {
     const uint8_t *answer_before;
     struct lent lent[5];
     uint32_t status;
-    uint64_t answer[5];
+    uint64_t answer[6];
 };
 
 static uint32_t call_decode(const struct decode *c, struct lent readings, uint64_t *answer)
@@ -355,19 +359,22 @@ static int check_early(const struct decode *c)
         return 0;
     }
     hold(c->answer[0] == 0 && c->answer[1] == 0, "a count or a filling with 15, 7 or 8");
-    hold(same(carried, c->answer + 2, sizeof carried), "what 15, 7 or 8 carries");
+    hold(same(carried, c->answer + 2, sizeof carried) && c->answer[5] == 0, "what 15, 7 or 8 carries");
     hold(same(c->lent[PADDING].bytes, c->padding_before, c->lent[PADDING].length), "padding touched by 15, 7 or 8");
     hold(same(c->lent[READINGS].bytes, c->readings_before, c->lent[READINGS].length), "readings touched by 15, 7 or 8");
     return 1;
 }
 
-/* The padding run: the payload and 0xFF up to the table's length where it is filled, and as it was past that. */
+/*
+ * The padding run: the payload and 0xFF up to the table's length where it is filled, and as it was past that. Answers the
+ * length of the working payload.
+ */
 static size_t check_padding(const struct decode *c)
 {
     const uint8_t *padding = c->lent[PADDING].bytes;
     size_t filled = is_filled(c) ? head_of(c, 2) : 0;
     size_t i;
-    hold(c->answer[1] == (uint64_t)is_filled(c), "whether the payload is filled");
+    hold(c->answer[1] == filled, "the length that the payload is filled to");
     if (filled > 0) {
         hold(same(padding, c->payload, c->payload_length), "the payload at the front of the padding run");
         for (i = c->payload_length; i < filled; i++) {
@@ -375,6 +382,8 @@ static size_t check_padding(const struct decode *c)
         }
     }
     hold(same(padding + filled, c->padding_before + filled, SAMOPUTE_PADDING_LENGTH - filled), "padding past the filling");
+    hold(samopute_working_length(c->answer, c->payload_length) == (filled > 0 ? filled : c->payload_length),
+         "another length of the working payload");
     return filled > 0 ? filled : c->payload_length;
 }
 
@@ -460,7 +469,7 @@ static void check_again(const struct decode *c)
 {
     static uint8_t enough[SAMOPUTE_READINGS_LENGTH(SAMOPUTE_ROOM_ENOUGH)];
     struct lent l = {enough, sizeof enough, NULL};
-    uint64_t answer[5];
+    uint64_t answer[6];
     uint64_t count = c->answer[0];
     uint32_t status = call_decode(c, l, answer);
     hold(status != 9, "9 with room enough");
@@ -476,15 +485,39 @@ static int is_number_kind(uint64_t kind)
     return kind == SAMOPUTE_NUMBER || (kind >= SAMOPUTE_LOOKUP && kind <= SAMOPUTE_PGN) || kind == SAMOPUTE_ISO_NAME;
 }
 
+/*
+ * Refusal 2: of bytes where bytes are read, which end beyond all that there are; else of bits, those of the field or of a
+ * text's length or encoding byte.
+ */
+static void check_beyond(const struct decode *c, size_t length)
+{
+    const uint64_t *carried = c->answer + 2;
+    uint64_t field = c->words[1 + carried[0]];
+    uint64_t kind = field & 0xFF;
+    uint64_t width = field >> 8 & 0xFFFF;
+    int is_text = kind == SAMOPUTE_STRING_LZ || kind == SAMOPUTE_STRING_LAU;
+    int is_bytes = kind == SAMOPUTE_STRING_FIX || (kind == SAMOPUTE_BINARY && width % 8 == 0);
+    hold(!is_number_kind(kind) && carried[1] > carried[2], "2 of a number, or of less than there is");
+    if (c->answer[5] == SAMOPUTE_UNIT_BYTES) {
+        beyond_bytes++;
+        hold((is_text || is_bytes) && carried[2] == length, "bytes counted, but not those of the payload");
+    } else {
+        beyond_bits++;
+        hold(c->answer[5] == SAMOPUTE_UNIT_BITS, "a unit that is neither bits nor bytes");
+        hold(!is_bytes && carried[1] == (is_text ? 8 : width), "bits counted, but not those of the field");
+    }
+}
+
 /* Refusals 2, 3, 4 and 9: of a field that can be refused so, and with what they carry. */
-static void check_refused_field(const struct decode *c)
+static void check_refused_field(const struct decode *c, size_t length)
 {
     const uint64_t *carried = c->answer + 2;
     uint64_t kind;
     hold(carried[0] < head_of(c, 0), "a field that the table has not");
     kind = c->words[1 + carried[0]] & 0xFF;
+    hold(c->status == 2 || c->answer[5] == 0, "a unit without 2");
     if (c->status == 2) {
-        hold(!is_number_kind(kind) && carried[1] > carried[2], "2 of a number, or of less than there is");
+        check_beyond(c, length);
     } else if (c->status == 3) {
         hold(kind >= SAMOPUTE_STRING_FIX && kind <= SAMOPUTE_BINARY, "3 of a number");
         hold(carried[1] % 8 != 0 && carried[2] == 0, "3 at a whole byte");
@@ -502,6 +535,33 @@ static void check_refused_set(const struct decode *c)
     hold(carried[0] < head_of(c, 1), "a set that the table has not");
     hold(carried[2] == c->words[1 + head_of(c, 0) + carried[0]] >> 48 && carried[1] > carried[2],
          "5 without a count over the maximum");
+    hold(c->answer[5] == 0, "a unit without 2");
+}
+
+/*
+ * What was read by a table without sets is written again, with the working payload as the text: it is of kinds that its
+ * fields take, and no text lies past what is lent. (A StringLz of 222 bytes can be read, but not written. Where fewer
+ * elements of a set fit than its counter says, the values after it come to other fields.)
+ */
+static void check_written_again(const struct decode *c, const uint8_t *working)
+{
+    static uint8_t values[SAMOPUTE_VALUES_LENGTH(SAMOPUTE_ROOM_ENOUGH + 1)];
+    uint8_t payload[SAMOPUTE_PAYLOAD_MAX];
+    struct samopute_reading r;
+    uint64_t answer[4];
+    uint64_t longest = 0;
+    uint32_t status;
+    size_t i;
+    for (i = 0; i < c->answer[0]; i++) {
+        samopute_reading_at(c->lent[READINGS].bytes, i, &r);
+        samopute_put_value(values, i, samopute_value_of_reading(&r));
+        longest = r.length > longest ? r.length : longest;
+    }
+    this_call = "samopute_encode";
+    status = samopute_encode(c->words, c->word_count, values, SAMOPUTE_VALUES_LENGTH(i), working,
+                             samopute_working_length(c->answer, c->payload_length), payload, sizeof payload, answer);
+    hold(status != 11, "a value that was read is of another kind");
+    hold(status != 13 || longest > SAMOPUTE_TEXT_MAX, "a text that was read is too long, or past the working payload");
 }
 
 static void check_walked(const struct decode *c)
@@ -514,11 +574,14 @@ static void check_walked(const struct decode *c)
     end = check_readings(c, working, length);
     if (c->status == 0) {
         hold(c->answer[2] >= end && c->answer[2] <= 8 * length, "an end outside of the payload");
-        hold(c->answer[3] == 0 && c->answer[4] == 0, "more than the end");
+        hold(c->answer[3] == 0 && c->answer[4] == 0 && c->answer[5] == 0, "more than the end");
+        if (head_of(c, 1) == 0) {
+            check_written_again(c, working);
+        }
     } else if (c->status == 5) {
         check_refused_set(c);
     } else {
-        check_refused_field(c);
+        check_refused_field(c, length);
     }
 }
 
@@ -554,7 +617,7 @@ struct both {
     size_t room;
     uint8_t padding[PAYLOAD_MOST];
     uint32_t status;
-    uint64_t answer[5];
+    uint64_t answer[6];
 };
 
 /* None, few, or as many as there can be. */
@@ -762,7 +825,7 @@ static void check_read_back(const struct encode *c, const struct plain_encode *p
     static uint8_t readings[SAMOPUTE_READINGS_LENGTH(SAMOPUTE_ROOM_ENOUGH)];
     uint8_t padding[SAMOPUTE_PADDING_LENGTH];
     struct samopute_reading r;
-    uint64_t answer[5];
+    uint64_t answer[6];
     size_t i;
     this_call = "samopute_decode";
     hold(samopute_decode(c->words, c->word_count, c->lent[PAYLOAD].bytes, (size_t)c->answer[0], padding, sizeof padding,
@@ -1252,6 +1315,13 @@ static int met_all(void)
            met_each("other calls", answered, of_others, sizeof of_others / sizeof of_others[0]);
 }
 
+/* Both units of refusal 2 must have come too. */
+static int met_units(void)
+{
+    printf("refusal 2 of decodes: %" PRIu64 " of bits, %" PRIu64 " of bytes\n", beyond_bits, beyond_bytes);
+    return beyond_bits > 0 && beyond_bytes > 0;
+}
+
 static void run(uint64_t rounds, uint64_t first)
 {
     for (this_round = first; this_round - first < rounds; this_round++) {
@@ -1280,7 +1350,7 @@ int main(int argc, char **argv)
     tell_counts("decodes into structs", run_decoded);
     tell_counts("encodes", encoded);
     tell_counts("other calls", answered);
-    if (rounds >= ROUNDS_FOR_ALL && !met_all()) {
+    if (rounds >= ROUNDS_FOR_ALL && !(met_all() & met_units())) {
         return 1;
     }
     printf("%" PRIu64 " rounds of seed %" PRIu64 ": no fault, no wrong answer\n", rounds, seed);

@@ -28,7 +28,7 @@ static size_t payload_length;
 static uint8_t padding[SAMOPUTE_PADDING_LENGTH];
 static uint8_t readings[SAMOPUTE_READINGS_LENGTH(SAMOPUTE_ROOM_ENOUGH)];
 static struct samopute_reading structs[SAMOPUTE_ROOM_ENOUGH];
-static uint64_t answer[5];
+static uint64_t answer[6];
 static uint64_t numbers[8];
 static struct values values, pgn_values;
 static size_t values_length, pgn_values_length;

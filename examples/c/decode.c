@@ -1,7 +1,7 @@
 /*
- * Decodes one frame of PGN 129026, course and speed over ground, by its PGN and by a table of our own. Then shows two
- * refusals: of the frame cut short, and of a PGN that is not built in. After `rt staticlib samopute_c`, at the root of
- * the repository:
+ * Decodes one frame of PGN 129026, course and speed over ground, by its PGN and by a table of our own. Then shows three
+ * refusals: of the frame cut short, of one of 129029 that ends before its date, and of a PGN that is not built in. After
+ * `rt staticlib samopute_c`, at the root of the repository:
  *
  *     cc -std=c99 -I include examples/c/decode.c target/staticlib/libsamopute_c.a -o decode && ./decode
  *
@@ -32,7 +32,7 @@ static const uint64_t table[7] = {
 struct lent {
     uint8_t padding[SAMOPUTE_PADDING_LENGTH];
     uint8_t readings[SAMOPUTE_READINGS_LENGTH(ROOM)];
-    uint64_t answer[5];
+    uint64_t answer[6];
 };
 
 /* An integer as it is, a float with six digits after the point; a text or bytes by their length. */
@@ -72,6 +72,9 @@ static void print_answer(uint32_t status, const struct lent *lent)
         printf("  the end: %" PRIu64 " bits\n", lent->answer[2]);
     } else if (status == SAMOPUTE_CUT_SHORT) {
         printf("  refusal 4: the payload ends inside field %" PRIu64 "\n", lent->answer[2]);
+    } else if (status == SAMOPUTE_BEYOND) {
+        printf("  refusal 2: field %" PRIu64 " asks for %" PRIu64 " %s, of %" PRIu64 "\n", lent->answer[2],
+               lent->answer[3], lent->answer[5] == SAMOPUTE_UNIT_BITS ? "bits" : "bytes", lent->answer[4]);
     } else {
         printf("  refusal %" PRIu32 ": %" PRIu64 " %" PRIu64 " %" PRIu64 "\n", status, lent->answer[2],
                lent->answer[3], lent->answer[4]);
@@ -109,6 +112,9 @@ int main(void)
 
     printf("the first 5 bytes only\n");
     print_answer(decode_by_table(frame, 5, &lent), &lent);
+
+    printf("its first byte by PGN 129029\n");
+    print_answer(decode_pgn(129029, frame, 1, &lent), &lent);
 
     printf("by PGN 129027, which is not built in\n");
     print_answer(decode_pgn(129027, frame, sizeof frame, &lent), &lent);

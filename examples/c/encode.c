@@ -56,7 +56,7 @@ static void change_speed(const uint8_t *frame, size_t length, double speed)
     uint8_t padding[SAMOPUTE_PADDING_LENGTH];
     uint8_t readings[SAMOPUTE_READINGS_LENGTH(VALUES)];
     uint8_t values[SAMOPUTE_VALUES_LENGTH(VALUES)];
-    uint64_t answer[5];
+    uint64_t answer[6];
     struct samopute_reading reading;
     size_t i;
     if (samopute_decode_pgn(129026, frame, length, padding, sizeof padding, readings, sizeof readings, answer) != 0) {
@@ -68,7 +68,7 @@ static void change_speed(const uint8_t *frame, size_t length, double speed)
         samopute_put_value(values, i,
                            reading.field == 4 ? samopute_value_of_f64(speed) : samopute_value_of_reading(&reading));
     }
-    encode(values, i, samopute_working_payload(answer, frame, padding), length);
+    encode(values, i, samopute_working_payload(answer, frame, padding), samopute_working_length(answer, length));
 }
 
 int main(void)

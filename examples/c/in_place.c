@@ -42,7 +42,7 @@ static void print_reading(const struct samopute_reading *reading)
 }
 
 /* The readings where the library put them, then the end or the refusal. */
-static void print_answer(uint32_t status, const struct samopute_reading *readings, const uint64_t answer[5])
+static void print_answer(uint32_t status, const struct samopute_reading *readings, const uint64_t answer[6])
 {
     size_t i;
     for (i = 0; i < answer[0]; i++) {
@@ -60,7 +60,7 @@ int main(void)
     SAMOPUTE_READINGS(8) buffer; /* a count, and room for 8 readings */
     struct samopute_reading run[8];
     uint8_t padding[SAMOPUTE_PADDING_LENGTH];
-    uint64_t answer[5];
+    uint64_t answer[6];
     uint32_t status;
 
     printf("by samopute_decode\n");

@@ -1,14 +1,14 @@
 //! The bit cursors. A refused call moves no cursor and changes no buffer.
 
-use crate::refusal::Refusal;
+use crate::refusal::{Refusal, Unit};
 use crate::sys;
 
-/// The answer of a call by its status: the cursor after it and two numbers, or the refusal.
-fn answered(status: u32, answer: [u64; 3]) -> Result<(usize, u64, u64), Refusal> {
+/// The answer of a call by its status: the cursor after it and two numbers, or the refusal, which counts in this unit.
+fn answered(status: u32, answer: [u64; 3], unit: Unit) -> Result<(usize, u64, u64), Refusal> {
     let [next, a, b] = answer;
     match status {
         0 => Ok((next as usize, a, b)),
-        _ => Err(Refusal::of_call(status, [a, b, 0])),
+        _ => Err(Refusal::of_bit_call(status, [a, b], unit)),
     }
 }
 
@@ -25,7 +25,7 @@ macro_rules! reads {
         pub fn $name(&mut self, width: u32) -> Result<$number, Refusal> {
             let mut answer = [0; 3];
             let status = sys::$name(self.buffer, self.cursor, width, &mut answer);
-            let (next, number, _) = answered(status, answer)?;
+            let (next, number, _) = answered(status, answer, Unit::Bits)?;
             self.cursor = next;
             Ok(number as $number) // of `width` bits, which the type holds
         }
@@ -68,7 +68,7 @@ impl<'a> BitReader<'a> {
     pub fn advance(&mut self, width: u32) -> Result<(), Refusal> {
         let mut answer = [0; 3];
         let status = sys::advance(self.buffer, self.cursor, width, &mut answer);
-        let (next, _, _) = answered(status, answer)?;
+        let (next, _, _) = answered(status, answer, Unit::Bits)?;
         self.cursor = next;
         Ok(())
     }
@@ -77,7 +77,7 @@ impl<'a> BitReader<'a> {
     pub fn read_slice(&mut self, count: usize) -> Result<&'a [u8], Refusal> {
         let mut answer = [0; 3];
         let status = sys::read_slice(self.buffer, self.cursor, count, &mut answer);
-        let (next, start, length) = answered(status, answer)?;
+        let (next, start, length) = answered(status, answer, Unit::Bytes)?;
         self.cursor = next;
         // The part lies in the buffer; if it did not, there would be no bytes.
         let part = self
@@ -101,7 +101,7 @@ macro_rules! writes {
         pub fn $name(&mut self, value: $number, width: u32) -> Result<(), Refusal> {
             let mut answer = [0; 3];
             let status = sys::$name(self.buffer, self.cursor, value, width, &mut answer);
-            self.moved(status, answer)
+            self.moved(status, answer, Unit::Bits)
         }
     )* };
 }
@@ -142,19 +142,19 @@ impl<'a> BitWriter<'a> {
     pub fn advance(&mut self, width: u32) -> Result<(), Refusal> {
         let mut answer = [0; 3];
         let status = sys::write_advance(self.buffer, self.cursor, width, &mut answer);
-        self.moved(status, answer)
+        self.moved(status, answer, Unit::Bits)
     }
 
     /// Bytes, from a whole byte on.
     pub fn write_slice(&mut self, source: &[u8]) -> Result<(), Refusal> {
         let mut answer = [0; 3];
         let status = sys::write_slice(self.buffer, self.cursor, source, &mut answer);
-        self.moved(status, answer)
+        self.moved(status, answer, Unit::Bytes)
     }
 
     /// Puts the cursor where the call left it.
-    fn moved(&mut self, status: u32, answer: [u64; 3]) -> Result<(), Refusal> {
-        let (next, _, _) = answered(status, answer)?;
+    fn moved(&mut self, status: u32, answer: [u64; 3], unit: Unit) -> Result<(), Refusal> {
+        let (next, _, _) = answered(status, answer, unit)?;
         self.cursor = next;
         Ok(())
     }

@@ -1,10 +1,11 @@
 //! Payloads to readings.
 
+use core::fmt;
 use core::iter::FusedIterator;
 
 use crate::layout::{PADDING_LENGTH, RECORD};
 use crate::record::Record;
-use crate::refusal::Refusal;
+use crate::refusal::{Refusal, Unit};
 use crate::sys;
 use crate::table::Table;
 use crate::value::{Availability, Value};
@@ -16,6 +17,15 @@ use crate::value::{Availability, Value};
 pub struct Decoder<const N: usize> {
     padding: [u8; PADDING_LENGTH],
     run: sys::Run<N>,
+}
+
+impl<const N: usize> fmt::Debug for Decoder<N> {
+    fn fmt(&self, f: &mut fmt::Formatter<'_>) -> fmt::Result {
+        // The buffers hold no readings but those that a `Decoded` has.
+        f.debug_struct("Decoder")
+            .field("room", &N)
+            .finish_non_exhaustive()
+    }
 }
 
 impl<const N: usize> Default for Decoder<N> {
@@ -35,7 +45,7 @@ impl<const N: usize> Decoder<N> {
 
     /// Reads a payload by a table.
     pub fn decode<'a>(&'a mut self, table: Table<'_>, payload: &'a [u8]) -> Decoded<'a> {
-        let mut answer = [0; 5];
+        let mut answer = [0; 6];
         let status = sys::decode(
             table.words(),
             payload,
@@ -43,26 +53,25 @@ impl<const N: usize> Decoder<N> {
             &mut self.run,
             &mut answer,
         );
-        self.decoded(status, answer, payload, table.length())
+        self.decoded(status, answer, payload)
     }
 
     /// Reads a payload by the built-in table of a PGN: 129025, 129026, 129029 or 130900. None of these has a length, so a
     /// payload is never filled.
     pub fn decode_pgn<'a>(&'a mut self, pgn: u32, payload: &'a [u8]) -> Decoded<'a> {
-        let mut answer = [0; 5];
+        let mut answer = [0; 6];
         let status = sys::decode_pgn(pgn, payload, &mut self.padding, &mut self.run, &mut answer);
-        self.decoded(status, answer, payload, PADDING_LENGTH)
+        self.decoded(status, answer, payload)
     }
 
     /// The answer, with the readings that were made.
     fn decoded<'a>(
         &'a self,
         status: u32,
-        answer: [u64; 5],
+        answer: sys::DecodeAnswer,
         payload: &'a [u8],
-        length: usize,
     ) -> Decoded<'a> {
-        let outcome = Outcome::new(status, answer, payload, &self.padding, length);
+        let outcome = Outcome::new(status, answer, payload, &self.padding);
         Decoded {
             records: &self.run.records[..outcome.count.min(N)],
             outcome,
@@ -71,7 +80,7 @@ impl<const N: usize> Decoder<N> {
 }
 
 /// What a decode answers beside its readings.
-#[derive(Clone, Copy)]
+#[derive(Clone, Copy, Debug)]
 struct Outcome<'a> {
     count: usize,
     payload: &'a [u8],
@@ -80,27 +89,24 @@ struct Outcome<'a> {
 }
 
 impl<'a> Outcome<'a> {
-    /// With the working payload: what was received, or the front of the padding run, filled to this length.
+    /// With the working payload: what was received, or as many bytes at the front of the padding run as were filled.
     fn new(
         status: u32,
-        answer: [u64; 5],
+        answer: sys::DecodeAnswer,
         payload: &'a [u8],
         padding: &'a [u8; PADDING_LENGTH],
-        length: usize,
     ) -> Outcome<'a> {
-        let [count, filled, a, b, c] = answer;
-        let is_filled = filled == 1;
+        let [count, filled, a, b, c, unit] = answer;
         Outcome {
             count: count as usize,
-            payload: if is_filled {
-                &padding[..length.min(PADDING_LENGTH)]
-            } else {
-                payload
+            payload: match filled as usize {
+                0 => payload,
+                length => &padding[..length.min(PADDING_LENGTH)],
             },
-            is_filled,
+            is_filled: filled != 0,
             end: match status {
                 0 => Ok(a),
-                _ => Err(Refusal::of_decode(status, [a, b, c])),
+                _ => Err(Refusal::of_decode(status, [a, b, c], Unit::of(unit))),
             },
         }
     }
@@ -112,6 +118,15 @@ impl<'a> Outcome<'a> {
 pub struct Decoded<'a> {
     records: &'a [[u8; RECORD]],
     outcome: Outcome<'a>,
+}
+
+impl fmt::Debug for Decoded<'_> {
+    fn fmt(&self, f: &mut fmt::Formatter<'_>) -> fmt::Result {
+        f.debug_struct("Decoded")
+            .field("readings", &self.readings())
+            .field("outcome", &self.outcome)
+            .finish()
+    }
 }
 
 impl<'a> Decoded<'a> {
@@ -159,9 +174,9 @@ pub fn decode_run<'a>(
     padding: &'a mut [u8; PADDING_LENGTH],
     records: &'a mut [Record],
 ) -> DecodedRun<'a> {
-    let mut answer = [0; 5];
+    let mut answer = [0; 6];
     let status = sys::decode_run(table.words(), payload, padding, records, &mut answer);
-    let outcome = Outcome::new(status, answer, payload, padding, table.length());
+    let outcome = Outcome::new(status, answer, payload, padding);
     let made = outcome.count.min(records.len());
     DecodedRun {
         records: &records[..made],
@@ -170,7 +185,7 @@ pub fn decode_run<'a>(
 }
 
 /// What [`decode_run`] answers: the records that were made, then the end or the refusal.
-#[derive(Clone, Copy)]
+#[derive(Clone, Copy, Debug)]
 #[must_use]
 pub struct DecodedRun<'a> {
     records: &'a [Record],
@@ -262,6 +277,12 @@ fn bytes_of<'a>(record: &Record, payload: &'a [u8]) -> Value<'a> {
 pub struct Readings<'a> {
     records: core::slice::Iter<'a, [u8; RECORD]>,
     payload: &'a [u8],
+}
+
+impl fmt::Debug for Readings<'_> {
+    fn fmt(&self, f: &mut fmt::Formatter<'_>) -> fmt::Result {
+        f.debug_list().entries(self.clone()).finish()
+    }
 }
 
 impl<'a> Iterator for Readings<'a> {

@@ -15,6 +15,9 @@ use crate::value::Value;
 /// the counter before them says. A scaled field takes floats and signed integers, an unscaled one integers of its sign, a
 /// Float an `F32`, a text or a Binary of whole bytes [`Value::Bytes`].
 ///
+/// A scaled number that was read is written by its value: where a float has rounded that, the raw can be another one (16777217
+/// in 25 bits, single at 1, becomes 16777216), or be refused with 10.
+///
 /// ```
 /// use samopute::{Decoder, Encoder, Value};
 ///
@@ -49,6 +52,15 @@ impl fmt::Display for Full {
 }
 
 impl Error for Full {}
+
+impl<const N: usize> fmt::Debug for Encoder<N> {
+    fn fmt(&self, f: &mut fmt::Formatter<'_>) -> fmt::Result {
+        f.debug_struct("Encoder")
+            .field("room", &N)
+            .field("count", &self.count)
+            .finish_non_exhaustive()
+    }
+}
 
 impl<const N: usize> Default for Encoder<N> {
     fn default() -> Self {

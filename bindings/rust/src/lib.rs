@@ -80,7 +80,7 @@
 //! // A satellite's speed does not fit 16 bits of 0.01 m/s: it is refused, never cut to what fits.
 //! let encoder = Encoder::<4>::of(&[Value::U8(42), Value::U8(0), course, Value::F64(7600.0)]).unwrap();
 //! let refused = encoder.encode_pgn(129026, &mut payload);
-//! assert_eq!(refused, Err(Refusal::ValueOutOfRange { field: 4 }));
+//! assert_eq!(refused, Err(Refusal::OutOfRange { field: Some(4) }));
 //! assert_eq!(payload, [0x2A, 0xFC, 0x5C, 0x3D, 0xFF, 0xFF, 0xFF, 0xFF]); // no bit of it is there
 //! ```
 //!
@@ -117,11 +117,16 @@
 //! assert_eq!(reader.cursor(), 13);
 //! ```
 #![no_std]
-#![deny(unsafe_op_in_unsafe_fn, missing_docs)]
+#![deny(unsafe_op_in_unsafe_fn, missing_docs, missing_debug_implementations)]
 #![deny(unsafe_code)]
 
-#[cfg(not(target_pointer_width = "64"))]
-compile_error!("the static library is for x86-64 Linux: a count of this crate has 64 bits");
+// The static library is machine code for one platform. A count of it has 64 bits, as `usize` has there.
+#[cfg(not(all(
+    target_arch = "x86_64",
+    target_os = "linux",
+    target_pointer_width = "64"
+)))]
+compile_error!("the static library is for x86-64 Linux, with pointers of 64 bits");
 
 mod bits;
 mod decode;
@@ -152,10 +157,10 @@ pub struct Version {
     pub minor: u32,
 }
 
-/// Asks the library for its version. This crate is for 1.2.
+/// Asks the library for its version. This crate is for 2.0.
 ///
 /// ```
-/// assert_eq!(samopute::version(), samopute::Version { major: 1, minor: 2 });
+/// assert_eq!(samopute::version(), samopute::Version { major: 2, minor: 0 });
 /// ```
 pub fn version() -> Version {
     let number = sys::version();

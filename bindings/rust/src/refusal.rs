@@ -16,14 +16,23 @@ pub enum Refusal {
         /// The width that was asked.
         width: u64,
     },
-    /// 2: beyond the buffer. Number calls and an encode count bits. Slice calls count bytes, and `asked` is where the slice
-    /// would end.
-    Beyond {
+    /// 2, of bits: a number, a skipped field, or a text's length or encoding byte lies beyond the buffer. An encode, and the
+    /// calls on numbers of a [`BitReader`](crate::BitReader) and a [`BitWriter`](crate::BitWriter), give this one.
+    BeyondBits {
         /// The field, if it was a decode or an encode.
         field: Option<u64>,
-        /// What was asked.
+        /// The bits that were asked: in an encode those of the whole field.
         asked: u64,
-        /// What is there.
+        /// The bits that are left.
+        available: u64,
+    },
+    /// 2, of bytes: a text or bytes would end beyond the buffer. A decode and the slice calls give this one.
+    BeyondBytes {
+        /// The field, if it was a decode.
+        field: Option<u64>,
+        /// Where the bytes would end, in bytes from the start of the buffer.
+        asked: u64,
+        /// The bytes of the buffer.
         available: u64,
     },
     /// 3: a byte slice at a cursor that is no multiple of 8.
@@ -70,18 +79,14 @@ pub enum Refusal {
         field: u64,
     },
     /// 10: a value is out of its field's range.
-    OutOfRange,
-    /// 11: a value of another kind than the field takes.
-    OtherKind,
-    /// 10, in an encode: a value is out of its field's range.
-    ValueOutOfRange {
-        /// The field.
-        field: u64,
+    OutOfRange {
+        /// The field, if it was an encode.
+        field: Option<u64>,
     },
-    /// 11, in an encode: a value of another kind than the field takes.
-    ValueOfOtherKind {
-        /// The field.
-        field: u64,
+    /// 11: a value of another kind than the field takes.
+    OtherKind {
+        /// The field, if it was an encode.
+        field: Option<u64>,
     },
     /// 12: a value is missing, or values are left over.
     ValueCount {
@@ -105,6 +110,40 @@ pub enum Refusal {
         /// What it carries.
         carried: [u64; 3],
     },
+}
+
+/// What refusal 2 counts.
+#[derive(Clone, Copy)]
+pub(crate) enum Unit {
+    Bits,
+    Bytes,
+}
+
+impl Unit {
+    /// By its bits; none where nothing is counted.
+    pub(crate) const fn of(bits: u64) -> Option<Unit> {
+        match bits {
+            1 => Some(Unit::Bits),
+            8 => Some(Unit::Bytes),
+            _ => None,
+        }
+    }
+
+    /// Refusal 2 in this unit.
+    const fn beyond(self, field: Option<u64>, asked: u64, available: u64) -> Refusal {
+        match self {
+            Unit::Bits => Refusal::BeyondBits {
+                field,
+                asked,
+                available,
+            },
+            Unit::Bytes => Refusal::BeyondBytes {
+                field,
+                asked,
+                available,
+            },
+        }
+    }
 }
 
 /// The rules that a table is held to, in the order in which they are checked.
@@ -157,7 +196,7 @@ impl Refusal {
     pub const fn number(&self) -> u32 {
         match self {
             Refusal::Width { .. } => 1,
-            Refusal::Beyond { .. } => 2,
+            Refusal::BeyondBits { .. } | Refusal::BeyondBytes { .. } => 2,
             Refusal::Unaligned { .. } => 3,
             Refusal::CutShort { .. } => 4,
             Refusal::TooManyElements { .. } => 5,
@@ -165,8 +204,8 @@ impl Refusal {
             Refusal::WrongLength { .. } => 7,
             Refusal::TableRefused { .. } => 8,
             Refusal::NoRoom { .. } => 9,
-            Refusal::OutOfRange | Refusal::ValueOutOfRange { .. } => 10,
-            Refusal::OtherKind | Refusal::ValueOfOtherKind { .. } => 11,
+            Refusal::OutOfRange { .. } => 10,
+            Refusal::OtherKind { .. } => 11,
             Refusal::ValueCount { .. } => 12,
             Refusal::TextTooLong { .. } => 13,
             Refusal::UnknownPgn { .. } => 15,
@@ -174,48 +213,53 @@ impl Refusal {
         }
     }
 
-    /// A status over 0 of an encode: 10 to 13 carry the field too.
+    /// A status over 0 of an encode: 10 to 13 carry the field too, and 2 counts bits.
     pub(crate) fn of_encode(status: u32, carried: [u64; 3]) -> Refusal {
         let [field, _, _] = carried;
         match status {
-            10 => Refusal::ValueOutOfRange { field },
-            11 => Refusal::ValueOfOtherKind { field },
+            10 => Refusal::OutOfRange { field: Some(field) },
+            11 => Refusal::OtherKind { field: Some(field) },
             12 => Refusal::ValueCount { field },
             13 => Refusal::TextTooLong { field },
-            _ => Refusal::of_decode(status, carried),
+            _ => Refusal::of_decode(status, carried, Some(Unit::Bits)),
         }
     }
 
-    /// A status over 0 of a decode: 1 to 3 carry the field first.
-    pub(crate) fn of_decode(status: u32, carried: [u64; 3]) -> Refusal {
+    /// A status over 0 of a decode: 1 to 3 carry the field first, and 2 counts in this unit.
+    pub(crate) fn of_decode(status: u32, carried: [u64; 3], unit: Option<Unit>) -> Refusal {
         let [a, b, c] = carried;
-        match status {
-            1 => Refusal::Width {
+        match (status, unit) {
+            (1, _) => Refusal::Width {
                 field: Some(a),
                 maximum: b,
                 width: c,
             },
-            2 => Refusal::Beyond {
-                field: Some(a),
-                asked: b,
-                available: c,
-            },
-            3 => Refusal::Unaligned {
+            (2, Some(unit)) => unit.beyond(Some(a), b, c),
+            (3, _) => Refusal::Unaligned {
                 field: Some(a),
                 cursor: b,
             },
-            4 => Refusal::CutShort { field: a },
-            5 => Refusal::TooManyElements {
+            (4, _) => Refusal::CutShort { field: a },
+            (5, _) => Refusal::TooManyElements {
                 set: a,
                 count: b,
                 maximum: c,
             },
-            9 => Refusal::NoRoom { field: a },
+            (9, _) => Refusal::NoRoom { field: a },
             _ => Refusal::of_call(status, carried),
         }
     }
 
-    /// A status over 0 of any other call.
+    /// A status over 0 of a bit call, whose 2 counts in this unit.
+    pub(crate) fn of_bit_call(status: u32, carried: [u64; 2], unit: Unit) -> Refusal {
+        let [a, b] = carried;
+        match status {
+            2 => unit.beyond(None, a, b),
+            _ => Refusal::of_call(status, [a, b, 0]),
+        }
+    }
+
+    /// A status over 0 of any other call: none of them gives 2.
     pub(crate) fn of_call(status: u32, carried: [u64; 3]) -> Refusal {
         let [a, b, _] = carried;
         let other = Refusal::Other {
@@ -228,11 +272,6 @@ impl Refusal {
                 maximum: a,
                 width: b,
             },
-            2 => Refusal::Beyond {
-                field: None,
-                asked: a,
-                available: b,
-            },
             3 => Refusal::Unaligned {
                 field: None,
                 cursor: a,
@@ -243,8 +282,8 @@ impl Refusal {
                 Some(rule) => Refusal::TableRefused { rule, index: b },
                 None => other,
             },
-            10 => Refusal::OutOfRange,
-            11 => Refusal::OtherKind,
+            10 => Refusal::OutOfRange { field: None },
+            11 => Refusal::OtherKind { field: None },
             15 => Refusal::UnknownPgn { pgn: a },
             _ => other,
         }
@@ -278,14 +317,25 @@ impl fmt::Display for Refusal {
                     InField(*field)
                 )
             }
-            Refusal::Beyond {
+            Refusal::BeyondBits {
                 field,
                 asked,
                 available,
             } => {
                 write!(
                     f,
-                    "beyond the buffer: asked {asked}, available {available}{}",
+                    "beyond the buffer: {asked} bits asked, {available} available{}",
+                    InField(*field)
+                )
+            }
+            Refusal::BeyondBytes {
+                field,
+                asked,
+                available,
+            } => {
+                write!(
+                    f,
+                    "beyond the buffer: bytes that would end at {asked}, of {available} bytes{}",
                     InField(*field)
                 )
             }
@@ -314,13 +364,15 @@ impl fmt::Display for Refusal {
                 write!(f, "the table breaks rule {} at {index}", rule.letter())
             }
             Refusal::NoRoom { field } => write!(f, "no room for the reading of field {field}"),
-            Refusal::OutOfRange => write!(f, "a value out of its field's range"),
-            Refusal::OtherKind => write!(f, "a value of another kind than the field takes"),
-            Refusal::ValueOutOfRange { field } => {
-                write!(f, "field {field} cannot hold its value")
+            Refusal::OutOfRange { field } => {
+                write!(f, "a value out of its field's range{}", InField(*field))
             }
-            Refusal::ValueOfOtherKind { field } => {
-                write!(f, "a value of another kind than field {field} takes")
+            Refusal::OtherKind { field } => {
+                write!(
+                    f,
+                    "a value of another kind than the field takes{}",
+                    InField(*field)
+                )
             }
             Refusal::ValueCount { field } => {
                 write!(f, "values are missing or left over, at field {field}")

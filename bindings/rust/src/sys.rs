@@ -6,9 +6,9 @@
 use crate::layout::{PADDING_LENGTH, RECORD, VALUE};
 use crate::record::Record;
 
-/// What a call lays down: a bit call, the table check and the calls on numbers three numbers, a decode five, an encode four.
+/// What a call lays down: a bit call, the table check and the calls on numbers three numbers, a decode six, an encode four.
 pub(crate) type Answer = [u64; 3];
-pub(crate) type DecodeAnswer = [u64; 5];
+pub(crate) type DecodeAnswer = [u64; 6];
 pub(crate) type EncodeAnswer = [u64; 4];
 
 /// What `samopute_scale` lays down, which is one more than the other call on numbers.
@@ -209,7 +209,7 @@ pub(crate) fn decode<const N: usize>(
 ) -> u32 {
     let readings = run.bytes();
     // SAFETY: each pointer and length come from one live slice, exclusive where the library writes; the exclusive ones
-    // cannot overlap any other; `answer` has room for five numbers.
+    // cannot overlap any other; `answer` has room for six numbers.
     unsafe {
         c::samopute_decode(
             words.as_ptr(),

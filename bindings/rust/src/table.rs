@@ -159,7 +159,7 @@ impl Field {
     ///
     /// let field = Field::new(Kind::Number, 8).scaled(Resolution::Double(1.0));
     /// assert_eq!(field.raw_of(Value::F64(255.4)), Ok(255));
-    /// assert_eq!(field.raw_of(Value::F64(255.5)), Err(Refusal::OutOfRange));
+    /// assert_eq!(field.raw_of(Value::F64(255.5)), Err(Refusal::OutOfRange { field: None }));
     /// ```
     pub fn raw_of(self, value: Value<'_>) -> Result<u64, Refusal> {
         let mut answer = [0; 3];
@@ -268,12 +268,5 @@ impl<'a> Table<'a> {
             0 => Ok(()),
             status => Err(Refusal::of_call(status, answer)),
         }
-    }
-
-    /// The length to which payloads are filled.
-    pub(crate) fn length(self) -> usize {
-        self.words
-            .first()
-            .map_or(0, |head| (head >> 32 & 0xFFFF) as usize)
     }
 }

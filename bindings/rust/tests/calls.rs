@@ -34,7 +34,7 @@ fn a_refused_read_does_not_move() {
     assert_eq!(reader.read_u8(0).map(u64::from), width(64, 0));
     assert_eq!(
         reader.read_u64(17),
-        Err(Refusal::Beyond {
+        Err(Refusal::BeyondBits {
             field: None,
             asked: 17,
             available: 16
@@ -42,7 +42,7 @@ fn a_refused_read_does_not_move() {
     );
     assert_eq!(
         reader.advance(17),
-        Err(Refusal::Beyond {
+        Err(Refusal::BeyondBits {
             field: None,
             asked: 17,
             available: 16
@@ -63,7 +63,7 @@ fn slices_are_read_from_whole_bytes_on() {
     reader.seek(32);
     assert_eq!(
         reader.read_slice(0),
-        Err(Refusal::Beyond {
+        Err(Refusal::BeyondBytes {
             field: None,
             asked: 4,
             available: 3
@@ -80,7 +80,7 @@ fn slices_are_read_from_whole_bytes_on() {
     reader.seek(8);
     assert_eq!(
         reader.read_slice(usize::MAX),
-        Err(Refusal::Beyond {
+        Err(Refusal::BeyondBytes {
             field: None,
             asked: u64::MAX,
             available: 3
@@ -90,7 +90,7 @@ fn slices_are_read_from_whole_bytes_on() {
     assert_eq!(reader.bits_remaining(), 0);
     assert_eq!(
         reader.read_u8(1),
-        Err(Refusal::Beyond {
+        Err(Refusal::BeyondBits {
             field: None,
             asked: 1,
             available: 0
@@ -132,7 +132,7 @@ fn a_refused_write_changes_nothing() {
     );
     assert_eq!(
         writer.write_u64(0, 17),
-        Err(Refusal::Beyond {
+        Err(Refusal::BeyondBits {
             field: None,
             asked: 17,
             available: 16
@@ -140,7 +140,7 @@ fn a_refused_write_changes_nothing() {
     );
     assert_eq!(
         writer.write_slice(&[0; 3]),
-        Err(Refusal::Beyond {
+        Err(Refusal::BeyondBytes {
             field: None,
             asked: 3,
             available: 2
@@ -173,14 +173,20 @@ fn raws_and_values() {
     let twelve = Field::new(Kind::Number, 12).signed();
     assert_eq!(value_of(twelve, 0x800), Ok(Value::I16(-2048)));
     assert_eq!(twelve.raw_of(Value::I64(-2048)), Ok(0x800));
-    assert_eq!(twelve.raw_of(Value::I64(-2049)), Err(Refusal::OutOfRange));
-    assert_eq!(twelve.raw_of(Value::U8(0)), Err(Refusal::OtherKind));
+    assert_eq!(
+        twelve.raw_of(Value::I64(-2049)),
+        Err(Refusal::OutOfRange { field: None })
+    );
+    assert_eq!(
+        twelve.raw_of(Value::U8(0)),
+        Err(Refusal::OtherKind { field: None })
+    );
     assert_eq!(
         twelve.raw_of(Value::Bytes {
             bytes: &[],
             encoding: None
         }),
-        Err(Refusal::OtherKind)
+        Err(Refusal::OtherKind { field: None })
     );
 
     let eight = Field::new(Kind::Number, 8);
@@ -192,7 +198,10 @@ fn raws_and_values() {
     assert_eq!(eight.scale(3).unwrap().elements, 3);
     let scaled = eight.signed().scaled(Resolution::Double(1.0));
     assert_eq!(scaled.raw_of(Value::F64(-128.4)), Ok(0x80));
-    assert_eq!(scaled.raw_of(Value::F32(-128.5)), Err(Refusal::OutOfRange));
+    assert_eq!(
+        scaled.raw_of(Value::F32(-128.5)),
+        Err(Refusal::OutOfRange { field: None })
+    );
     assert_eq!(
         Field::new(Kind::Float, 32).raw_of(Value::F32(1.5)),
         Ok(0x3FC0_0000)
@@ -291,12 +300,24 @@ fn refusals_as_text() {
         "refusal 4: field 3 is cut short"
     );
     assert_eq!(
-        told(Refusal::Beyond {
+        told(Refusal::BeyondBits {
             field: Some(1),
             asked: 16,
             available: 8
         }),
-        "refusal 2: beyond the buffer: asked 16, available 8 in field 1"
+        "refusal 2: beyond the buffer: 16 bits asked, 8 available in field 1"
+    );
+    assert_eq!(
+        told(Refusal::BeyondBytes {
+            field: None,
+            asked: 16,
+            available: 8
+        }),
+        "refusal 2: beyond the buffer: bytes that would end at 16, of 8 bytes"
+    );
+    assert_eq!(
+        told(Refusal::OutOfRange { field: None }),
+        "refusal 10: a value out of its field's range"
     );
     assert_eq!(
         told(Refusal::Width {
@@ -312,4 +333,22 @@ fn refusals_as_text() {
     };
     assert_eq!(told(rule), "refusal 8: the table breaks rule h at 1");
     assert_eq!(Refusal::UnknownPgn { pgn: 129027 }.number(), 15);
+}
+
+#[test]
+fn every_type_can_be_shown() {
+    let mut decoder = samopute::Decoder::<3>::new();
+    assert_eq!(format!("{decoder:?}"), "Decoder { room: 3, .. }");
+    let decoded = decoder.decode_pgn(129029, &[7]);
+    let told = format!("{decoded:?}");
+    assert!(
+        told.contains("[Reading { field: 0, ") && told.contains("value: U8(7)"),
+        "{told}"
+    );
+    assert!(
+        told.contains("Err(BeyondBits { field: Some(1), asked: 16, available: 0 })"),
+        "{told}"
+    );
+    let encoder = samopute::Encoder::<2>::of(&[Value::U8(7)]).unwrap();
+    assert_eq!(format!("{encoder:?}"), "Encoder { room: 2, count: 1, .. }");
 }

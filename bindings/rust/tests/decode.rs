@@ -259,7 +259,7 @@ fn a_last_fixed_text_over_32_bytes_takes_what_is_left() {
         |decoded| {
             assert_eq!(
                 decoded.end(),
-                Err(Refusal::Beyond {
+                Err(Refusal::BeyondBytes {
                     field: Some(0),
                     asked: 32,
                     available: 20
@@ -352,7 +352,7 @@ fn a_payload_is_filled_from_the_minimum_on() {
     assert_eq!(seven.working_payload(), [1; 7]);
     assert_eq!(
         seven.end(),
-        Err(Refusal::Beyond {
+        Err(Refusal::BeyondBytes {
             field: Some(0),
             asked: 8,
             available: 7
@@ -389,13 +389,51 @@ fn refusal_2_names_the_field() {
         |decoded| {
             assert_eq!(
                 decoded.end(),
-                Err(Refusal::Beyond {
+                Err(Refusal::BeyondBits {
                     field: Some(1),
                     asked: 16,
                     available: 8
                 })
             );
             assert_eq!(decoded.readings().len(), 1);
+        },
+    );
+}
+
+#[test]
+fn refusal_2_tells_bits_from_bytes() {
+    let by = |width, payload: &[u8], wanted| {
+        let fields = [
+            Field::new(Kind::Number, width),
+            Field::new(Kind::StringLau, 0),
+        ];
+        let words = plain(&fields);
+        let mut decoder = Decoder::<2>::new();
+        let decoded = decoder.decode(Table::new(&words), payload);
+        assert_eq!(decoded.end(), Err(wanted));
+        assert_eq!(wanted.number(), 2);
+        let (mut padding, mut records) = ([0; PADDING_LENGTH], [POISON; 2]);
+        let run = decode_run(Table::new(&words), payload, &mut padding, &mut records);
+        assert_eq!(run.end(), Err(wanted));
+    };
+    let (field, asked, available) = (Some(1), 8, 7);
+    // The length byte, of which 7 bits are there; a text that would end at byte 8, of 7.
+    by(
+        1,
+        &[0],
+        Refusal::BeyondBits {
+            field,
+            asked,
+            available,
+        },
+    );
+    by(
+        8,
+        &[0, 7, 1, b'A', b'B', b'C', b'D'],
+        Refusal::BeyondBytes {
+            field,
+            asked,
+            available,
         },
     );
 }

@@ -66,7 +66,7 @@ fn the_worked_frame() {
 fn a_speed_of_7600_metres_a_second_is_refused() {
     let mut payload = [0; 8];
     let refused = course_and_speed(COURSE, 7600.0).encode_pgn(129026, &mut payload);
-    assert_eq!(refused, Err(Refusal::ValueOutOfRange { field: 4 }));
+    assert_eq!(refused, Err(Refusal::OutOfRange { field: Some(4) }));
     assert_eq!(refused.unwrap_err().number(), 10);
     assert_eq!(payload, [0x2A, 0xFC, 0x5C, 0x3D, 0xFF, 0xFF, 0xFF, 0xFF]);
 
@@ -94,7 +94,7 @@ fn the_limits_of_a_speed() {
     assert_eq!(raw_of(-0.004), Ok(0));
     assert_eq!(raw_of(655.35), Ok(0xFFFF));
     for speed in [-0.006, 655.36, f64::INFINITY, f64::NAN] {
-        assert_eq!(raw_of(speed), Err(Refusal::ValueOutOfRange { field: 4 }));
+        assert_eq!(raw_of(speed), Err(Refusal::OutOfRange { field: Some(4) }));
     }
 }
 
@@ -244,10 +244,59 @@ fn what_was_read_is_written_again() {
 }
 
 #[test]
+fn a_text_of_the_filled_bytes_is_written_again() {
+    let words = [
+        Head::of(2, 0).filled(2, 1).word(),
+        Field::new(Kind::Number, 8).word(),
+        Field::new(Kind::StringFix, 8).word(),
+    ];
+    let mut decoder = Decoder::<2>::new();
+    let decoded = decoder.decode(Table::new(&words), &[1]);
+    assert_eq!(decoded.working_payload(), [1, 0xFF]);
+    let values: Vec<_> = decoded.readings().map(|r| r.value).collect();
+    assert_eq!(values, [Value::U8(1), text(b"\xFF")]);
+    let mut payload = [0; 2];
+    let encoder = Encoder::<2>::of(&values).unwrap();
+    assert_eq!(encoder.encode(Table::new(&words), &mut payload), Ok(2));
+    assert_eq!(payload, [1, 0xFF]);
+}
+
+/// What comes of a raw that is read by a table of this field and written again.
+fn again(field: Field, raw: u64) -> Result<u64, Refusal> {
+    let words = plain(&[field]);
+    let mut decoder = Decoder::<1>::new();
+    let frame = raw.to_le_bytes();
+    let decoded = decoder.decode(Table::new(&words), &frame);
+    let value = decoded.readings().next().unwrap().value;
+    let (used, payload) = encoded_by::<8>(&[field], &[value]);
+    used?;
+    samopute::BitReader::new(&payload).read_u64(field.width.into())
+}
+
+#[test]
+fn a_rounded_value_is_written_as_another_raw() {
+    let single = |width, by| Field::new(Kind::Number, width).scaled(Resolution::Single(by));
+    let latitude = Field::new(Kind::Number, 64)
+        .signed()
+        .scaled(Resolution::Double(1e-16));
+    assert_eq!(again(single(25, 1.0), 16_777_216), Ok(16_777_216));
+    assert_eq!(again(single(25, 1.0), 16_777_217), Ok(16_777_216));
+    assert_eq!(again(single(24, 0.01), 13_107_201), Ok(13_107_200));
+    assert_eq!(
+        again(latitude, 4_503_599_627_370_497),
+        Ok(4_503_599_627_370_498)
+    );
+    let refused = Err(Refusal::OutOfRange { field: Some(0) });
+    assert_eq!(again(single(32, 1.0), u32::MAX.into()), refused);
+    let nan = again(Field::new(Kind::Float, 32), 0x7FC0_0001);
+    assert_eq!(nan, Ok(0x7FC0_0000));
+}
+
+#[test]
 fn refusal_2_counts_the_bits_of_the_whole_field() {
     let fields = [Field::new(Kind::Number, 8), Field::new(Kind::StringLz, 0)];
     let (refused, payload) = encoded_by::<3>(&fields, &[Value::U8(7), text(b"ab")]);
-    let beyond = Refusal::Beyond {
+    let beyond = Refusal::BeyondBits {
         field: Some(1),
         asked: 32,
         available: 16,
@@ -291,7 +340,7 @@ fn refusals_7_8_and_15_touch_nothing() {
 fn refusal_11_is_of_a_value_of_another_kind() {
     let other = |field, value| {
         let (refused, payload) = encoded_by::<8>(&[field], &[value]);
-        assert_eq!(refused, Err(Refusal::ValueOfOtherKind { field: 0 }));
+        assert_eq!(refused, Err(Refusal::OtherKind { field: Some(0) }));
         assert_eq!(payload, [0xFF; 8]);
     };
     other(Field::new(Kind::Number, 8), Value::I8(1));
@@ -324,7 +373,7 @@ fn texts_longer_than_a_payload_are_refused_as_texts_of_their_length() {
     let long = [b'a'; 120];
     let fields = [Field::new(Kind::StringFix, 960); 2];
     let (refused, payload) = encoded_by::<200>(&fields, &[text(&long), text(&long)]);
-    let beyond = Refusal::Beyond {
+    let beyond = Refusal::BeyondBits {
         field: Some(1),
         asked: 960,
         available: 640,
@@ -354,12 +403,12 @@ fn an_encoder_has_room_for_so_many_values() {
 fn refusals_as_text() {
     let told = |refusal: Refusal| refusal.to_string();
     assert_eq!(
-        told(Refusal::ValueOutOfRange { field: 4 }),
-        "refusal 10: field 4 cannot hold its value"
+        told(Refusal::OutOfRange { field: Some(4) }),
+        "refusal 10: a value out of its field's range in field 4"
     );
     assert_eq!(
-        told(Refusal::ValueOfOtherKind { field: 1 }),
-        "refusal 11: a value of another kind than field 1 takes"
+        told(Refusal::OtherKind { field: Some(1) }),
+        "refusal 11: a value of another kind than the field takes in field 1"
     );
     assert_eq!(
         told(Refusal::ValueCount { field: 6 }),

@@ -16,6 +16,7 @@ use Rattle.bits.proofs.Cursor.read_slice.Reads as read-slice
 use Rattle.bits.proofs.BitRefusal.number.Reads as number
 use Rattle.bits.proofs.BitRefusal.carried_count.Reads as carried-count
 use Rattle.bits.proofs.BitRefusal.carried.Reads as carried
+use Rattle.bits.proofs.BitRefusal.unit.Reads as unit
 use Rattle.bits.proofs.Cursor.write_u64.Reads as write-u64
 use Rattle.bits.proofs.Cursor.write_u32.Reads as write-u32
 use Rattle.bits.proofs.Cursor.write_u16.Reads as write-u16
@@ -64,6 +65,9 @@ one-carried-count = fixed (λ κs a x s p. p)
 
 one-carried : Fixes carried.Post (λ κs x s. x)
 one-carried = fixed (λ κs a x s p. p)
+
+one-unit : Fixes unit.Post (λ κs x s. x)
+one-unit = fixed (λ κs a x s p. p)
 
 -- Calls that write: the answer, and the buffer at exit.
 

@@ -19,3 +19,11 @@ carriedOf (OutOfBits asked available) = asked .0 ∷ available .0 ∷ []
 carriedOf (OutOfBytes asked available) = asked .0 ∷ available .0 ∷ []
 carriedOf (NonAlignedBit cursor) = cursor .0 ∷ []
 carriedOf (BufferTooLong len) = len .0 ∷ []
+
+-- "Refusal 2 counts bits in number calls. In slice calls it counts bytes": how many bits are one of what it counts; any other counts nothing
+abbrev pub unitOf : BitRefusal → ℕ
+unitOf (TooLongForType max asked) = 0
+unitOf (OutOfBits asked available) = 1
+unitOf (OutOfBytes asked available) = 8
+unitOf (NonAlignedBit cursor) = 0
+unitOf (BufferTooLong len) = 0

@@ -1,8 +1,9 @@
-// Document 01's number for a refusal, and the values that it carries, in the paper's order.
+// Document 01's number for a refusal, the values that it carries, in the paper's order, and what they
+// count.
 ghost use mathlib.Core.Path.{_≡_};
 ghost use mathlib.Core.List.{[], _∷_};
 ghost use lib.ListN.{length, getD};
-ghost use Rattle.bits.specs.Refusals.{numberOf, carriedOf};
+ghost use Rattle.bits.specs.Refusals.{numberOf, carriedOf, unitOf};
 use crate::BitRefusal;
 
 impl BitRefusal {
@@ -53,6 +54,25 @@ impl BitRefusal {
             BitRefusal::NonAlignedBit { cursor } => of_two(cursor.0, 0, i),
             BitRefusal::OutOfBits { asked, available } => of_two(asked.0, available.0, i),
             BitRefusal::OutOfBytes { asked, available } => of_two(asked.0, available.0, i),
+        }
+    }
+
+    // How many bits are one of what refusal 2 counts: 1 for bits, 8 for bytes. 0 of any other refusal.
+    pub fn unit(self) -> u32
+        ensures { λ r. ⌜ r ≡ unitOf self ⌝ }
+    {
+        match self {
+            BitRefusal::BufferTooLong { length: _ } => 0,
+            BitRefusal::TooLongForType { max: _, asked: _ } => 0,
+            BitRefusal::NonAlignedBit { cursor: _ } => 0,
+            BitRefusal::OutOfBits {
+                asked: _,
+                available: _,
+            } => 1,
+            BitRefusal::OutOfBytes {
+                asked: _,
+                available: _,
+            } => 8,
         }
     }
 }

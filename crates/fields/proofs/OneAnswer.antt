@@ -9,6 +9,7 @@ use Rattle.fields.proofs.read.read_field_raw_and_value.Reads as read-fi
 use Rattle.fields.proofs.DecodeRefusal.number.Reads as number
 use Rattle.fields.proofs.DecodeRefusal.carried_count.Reads as carried-count
 use Rattle.fields.proofs.DecodeRefusal.carried.Reads as carried
+use Rattle.fields.proofs.DecodeRefusal.unit.Reads as unit
 
 one-field-availability : Fixes field-availability.Post (λ κs x s. x)
 one-field-availability = fixed (λ κs a x s p. p)
@@ -24,6 +25,9 @@ one-carried-count = fixed (λ κs a x s p. p)
 
 one-carried : Fixes carried.Post (λ κs x s. x)
 one-carried = fixed (λ κs a x s p. p)
+
+one-unit : Fixes unit.Post (λ κs x s. x)
+one-unit = fixed (λ κs a x s p. p)
 
 one-is-number : Fixes is-number.Post (λ κs x s. x)
 one-is-number = fixed (λ κs a x s p. p)

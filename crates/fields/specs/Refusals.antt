@@ -30,3 +30,12 @@ carriedOf (RepetitionsExceedCapacity set count maximum) = set ∷ count ∷ maxi
 carriedOf (WrongLength length) = length .0 ∷ []
 carriedOf (TableRefused rule index) = letterOf rule ∷ index ∷ []
 carriedOf (NoRoom field) = field ∷ []
+
+-- what refusal 2 counts, in bits: that of the bit call that gave it; any other counts nothing
+abbrev pub unitOf : DecodeRefusal → ℕ
+unitOf (BitReaderError field refusal) = bit.unitOf refusal
+unitOf (InvalidDataLength field) = 0
+unitOf (RepetitionsExceedCapacity set count maximum) = 0
+unitOf (WrongLength length) = 0
+unitOf (TableRefused rule index) = 0
+unitOf (NoRoom field) = 0

@@ -1,8 +1,9 @@
-// Document 01's number for a refusal, and the values that it carries, in the paper's order.
+// Document 01's number for a refusal, the values that it carries, in the paper's order, and what they
+// count.
 ghost use mathlib.Core.Path.{_≡_};
 ghost use mathlib.Core.List.{[], _∷_};
 ghost use lib.ListN.{length, getD};
-ghost use Rattle.fields.specs.Refusals.{numberOf, carriedOf};
+ghost use Rattle.fields.specs.Refusals.{numberOf, carriedOf, unitOf};
 use crate::DecodeRefusal;
 
 impl DecodeRefusal {
@@ -63,6 +64,24 @@ impl DecodeRefusal {
                 of_three(rule.letter() as usize, index, 0, i)
             }
             DecodeRefusal::NoRoom { field } => of_three(field, 0, 0, i),
+        }
+    }
+
+    // How many bits are one of what refusal 2 counts: 1 for bits, 8 for bytes. 0 of any other refusal.
+    pub fn unit(self) -> u32
+        ensures { λ r. ⌜ r ≡ unitOf self ⌝ }
+    {
+        match self {
+            DecodeRefusal::BitReaderError { field: _, refusal } => refusal.unit(),
+            DecodeRefusal::InvalidDataLength { field: _ } => 0,
+            DecodeRefusal::RepetitionsExceedCapacity {
+                set: _,
+                count: _,
+                maximum: _,
+            } => 0,
+            DecodeRefusal::WrongLength { length: _ } => 0,
+            DecodeRefusal::TableRefused { rule: _, index: _ } => 0,
+            DecodeRefusal::NoRoom { field: _ } => 0,
         }
     }
 }

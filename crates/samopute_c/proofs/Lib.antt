@@ -1,3 +1,4 @@
+pub mod Cells
 pub mod Laid
 pub mod CallsBack
 pub mod OneAnswer

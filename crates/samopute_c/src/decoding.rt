@@ -20,9 +20,9 @@ fn status_of(decoded: Decoded) -> u32
     }
 }
 
-// Whether the padding run was filled.
-fn filled_by(status: u32, filled: bool) -> u64
-    ensures { λ r. ⌜ r ≡ filledBy status filled ⌝ }
+// To how many bytes the padding run was filled, 0 if it was not.
+fn filled_by(status: u32, filled: bool, to: usize) -> u64
+    ensures { λ r. ⌜ r ≡ filledBy status filled to ⌝ }
 {
     if status == 7 {
         return 0;
@@ -30,53 +30,57 @@ fn filled_by(status: u32, filled: bool) -> u64
     if status == 8 {
         return 0;
     }
-    if filled { 1 } else { 0 }
+    if filled { to as u64 } else { 0 }
 }
 
 // Lays out a decode's answer.
-fn tell_decoded(answer: &mut [u64; 5], filled: u64, decoded: Decoded)
+fn tell_decoded(answer: &mut [u64; 6], filled: u64, decoded: Decoded)
     ensures { λ _. ⌜ now (answer .exit) ≡ decodedCells filled decoded ⌝ }
 {
     match decoded {
         Decoded::Ended { end, count } => {
             let to = end.0;
-            *answer = [count as u64, filled, to as u64, 0, 0];
+            *answer = [count as u64, filled, to as u64, 0, 0, 0];
         }
         Decoded::Refused { refusal, count } => {
             let first = refusal.carried(0);
             let second = refusal.carried(1);
             let third = refusal.carried(2);
+            let unit = refusal.unit();
             *answer = [
                 count as u64,
                 filled,
                 first as u64,
                 second as u64,
                 third as u64,
+                unit as u64,
             ];
         }
     }
 }
 
 // The status of a decode of so many bytes, and its answer laid out.
-pub fn told(words: &[u64], received: usize, decoded: Decoded, answer: &mut [u64; 5]) -> u32
+pub fn told(words: &[u64], received: usize, decoded: Decoded, answer: &mut [u64; 6]) -> u32
     ensures { λ r. ⌜ (r ≡ decodedStatus decoded) × (now (answer .exit) ≡ cellsOf (tableOf (now (words .entry))) received decoded) ⌝ }
 {
     let status = status_of(decoded);
-    let filled = filled_by(status, reading::is_filled(words, received));
+    let is_filled = reading::is_filled(words, received);
+    let filled = filled_by(status, is_filled, tables::length_of(words));
     tell_decoded(answer, filled, decoded);
     status
 }
 
 // Decodes a payload by a table in words. `padding` is of 223 bytes. The answer is 0, or the refusal's
-// number; the five numbers are the count of readings, 1 if the working payload is the front of the
-// padding run, and the end in bits, or what the refusal carries.
+// number; the six numbers are the count of readings, the length of the working payload if it is the
+// front of the padding run, else 0, the end in bits, or what the refusal carries, and how many bits are
+// one of what refusal 2 counts.
 #[no_mangle]
 pub extern "C" fn samopute_decode(
     words: &[u64],
     payload: &[u8],
     padding: &mut [u8],
     readings: &mut [u8],
-    answer: &mut [u64; 5],
+    answer: &mut [u64; 6],
 ) -> u32
     ensures { λ r. ⌜ (r ≡ decodedStatus (decodedInto (tableOf (now (words .entry))) (now (payload .entry)) (length (now (padding .entry))) (length (now (readings .entry))))) × ((now (padding .exit) ≡ runAfter (tableOf (now (words .entry))) (now (payload .entry)) (now (padding .entry))) × ((now (readings .exit) ≡ outAfter (tableOf (now (words .entry))) (now (payload .entry)) (length (now (padding .entry))) (now (readings .entry))) × (now (answer .exit) ≡ cellsOf (tableOf (now (words .entry))) (length (now (payload .entry))) (decodedInto (tableOf (now (words .entry))) (now (payload .entry)) (length (now (padding .entry))) (length (now (readings .entry))))))) ⌝ }
 {
@@ -92,7 +96,7 @@ pub extern "C" fn samopute_decode_pgn(
     payload: &[u8],
     padding: &mut [u8],
     readings: &mut [u8],
-    answer: &mut [u64; 5],
+    answer: &mut [u64; 6],
 ) -> u32
     ensures { λ r. ⌜ (r ≡ pgnStatus (byPgnOf pgn (now (payload .entry)) (length (now (padding .entry))) (length (now (readings .entry))))) × ((now (padding .exit) ≡ now (padding .entry)) × ((now (readings .exit) ≡ outByPgn pgn (now (payload .entry)) (length (now (padding .entry))) (now (readings .entry))) × (now (answer .exit) ≡ pgnCells pgn (byPgnOf pgn (now (payload .entry)) (length (now (padding .entry))) (length (now (readings .entry))))))) ⌝ }
 {
@@ -102,7 +106,7 @@ pub extern "C" fn samopute_decode_pgn(
             status_of(decoded)
         }
         ByPgn::Unknown => {
-            *answer = [0, 0, pgn as u64, 0, 0];
+            *answer = [0, 0, pgn as u64, 0, 0, 0];
             15
         }
     }
@@ -113,5 +117,5 @@ pub extern "C" fn samopute_decode_pgn(
 pub extern "C" fn samopute_version() -> u32
     ensures { λ r. ⌜ r ≡ versionOf ⌝ }
 {
-    0x1_0002
+    0x2_0000
 }

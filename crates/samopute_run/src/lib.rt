@@ -1,6 +1,6 @@
 // The boundary to C and Rust: a payload into an array of structs.
 //
-// Promise: `samopute_decode_run` takes whatever it is given. Its status, the five numbers of `answer` and the padding run are
+// Promise: `samopute_decode_run` takes whatever it is given. Its status, the six numbers of `answer` and the padding run are
 // those of `samopute_decode`, with as much room as the array has entries; the array holds the structs of `structs`, and every
 // later entry is as it was. It has no `requires`.
 //
@@ -23,7 +23,7 @@ pub extern "C" fn samopute_decode_run(
     payload: &[u8],
     padding: &mut [u8],
     readings: &mut [Record],
-    answer: &mut [u64; 5],
+    answer: &mut [u64; 6],
 ) -> u32
     ensures { λ r. ⌜ (r ≡ decodedStatus (decodedOf (tableOf (now (words .entry))) (now (payload .entry)) (length (now (padding .entry))) (length (now (readings .entry))))) × ((now (padding .exit) ≡ runAfter (tableOf (now (words .entry))) (now (payload .entry)) (now (padding .entry))) × ((now (readings .exit) ≡ structsAfter (tableOf (now (words .entry))) (now (payload .entry)) (length (now (padding .entry))) (now (readings .entry))) × (now (answer .exit) ≡ cellsOf (tableOf (now (words .entry))) (length (now (payload .entry))) (decodedOf (tableOf (now (words .entry))) (now (payload .entry)) (length (now (padding .entry))) (length (now (readings .entry))))))) ⌝ }
 {

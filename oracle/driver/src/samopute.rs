@@ -234,9 +234,9 @@ impl CReading {
     }
 }
 
-/// What a decode fills in: the count of readings, whether the padding run holds the working payload, and
-/// the end or what the refusal carries.
-pub type Decoded = [u64; 5];
+/// What a decode fills in: the count of readings, the length of the working payload if it is the front of
+/// the padding run, else 0, the end or what the refusal carries, and what refusal 2 counts.
+pub type Decoded = [u64; 6];
 
 mod decode_c {
     unsafe extern "C" {
@@ -285,7 +285,7 @@ pub fn version() -> u32 {
     unsafe { decode_c::samopute_version() }
 }
 
-// SAFETY, for the decodes: as above, and `answer` has room for five numbers.
+// SAFETY, for the decodes: as above, and `answer` has room for six numbers.
 
 /// 0, or the refusal. The readings are a count and records of 64 bytes.
 pub fn decode(

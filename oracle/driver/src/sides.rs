@@ -94,7 +94,7 @@ fn rust_read(case: &Case, buffer: &[u8]) -> Option<Answer> {
     };
     Some(Answer {
         cursor: reader.bit_cursor(),
-        outcome: outcome.map_err(read_refusal),
+        outcome: outcome.map_err(|error| read_refusal(case.call, error)),
     })
 }
 
@@ -132,7 +132,9 @@ fn rust_write(case: &Case, buffer: &mut [u8]) -> Option<Answer> {
     };
     Some(Answer {
         cursor: writer.bit_cursor(),
-        outcome: outcome.map(|()| [0, 0]).map_err(write_refusal),
+        outcome: outcome
+            .map(|()| [0, 0])
+            .map_err(|error| write_refusal(case.call, error)),
     })
 }
 
@@ -161,24 +163,32 @@ fn writer_at(buffer: &mut [u8], cursor: usize) -> Option<BitWriter<'_>> {
     Some(writer)
 }
 
-fn read_refusal(error: BitReaderError) -> Refusal {
+fn read_refusal(call: Call, error: BitReaderError) -> Refusal {
     match error {
         BitReaderError::TooLongForType { max, asked } => Refusal::Width {
             max: max.into(),
             width: asked.into(),
         },
-        BitReaderError::OutOfBounds { asked, available } => Refusal::Beyond { asked, available },
+        BitReaderError::OutOfBounds { asked, available } => beyond(call, asked, available),
         BitReaderError::NonAlignedBit { cursor } => Refusal::Unaligned { cursor },
     }
 }
 
-fn write_refusal(error: BitWriterError) -> Refusal {
+/// The Rust counts in the same units as document 01, but does not tell them.
+fn beyond(call: Call, asked: usize, available: usize) -> Refusal {
+    match call {
+        Call::ReadSlice | Call::WriteSlice => Refusal::BeyondBytes { asked, available },
+        _ => Refusal::BeyondBits { asked, available },
+    }
+}
+
+fn write_refusal(call: Call, error: BitWriterError) -> Refusal {
     match error {
         BitWriterError::TooLongForType { max, asked } => Refusal::Width {
             max: max.into(),
             width: asked.into(),
         },
-        BitWriterError::OutOfBounds { asked, available } => Refusal::Beyond { asked, available },
+        BitWriterError::OutOfBounds { asked, available } => beyond(call, asked, available),
         BitWriterError::NonAlignedBit { cursor } => Refusal::Unaligned { cursor },
     }
 }

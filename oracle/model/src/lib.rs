@@ -15,10 +15,26 @@ pub const WIDTH_MAX: u32 = 64;
 /// The refusals of a bit call, with what they carry.
 #[derive(Clone, Copy, Debug, PartialEq, Eq)]
 pub enum Refusal {
-    Width { max: u32, width: u32 },
-    Beyond { asked: usize, available: usize },
-    Unaligned { cursor: usize },
-    TooLong { length: usize },
+    Width {
+        max: u32,
+        width: u32,
+    },
+    /// 2 of a number call, which counts bits.
+    BeyondBits {
+        asked: usize,
+        available: usize,
+    },
+    /// 2 of a slice call, which counts bytes.
+    BeyondBytes {
+        asked: usize,
+        available: usize,
+    },
+    Unaligned {
+        cursor: usize,
+    },
+    TooLong {
+        length: usize,
+    },
 }
 
 impl Refusal {
@@ -26,7 +42,7 @@ impl Refusal {
     pub fn number(self) -> u32 {
         match self {
             Refusal::Width { .. } => 1,
-            Refusal::Beyond { .. } => 2,
+            Refusal::BeyondBits { .. } | Refusal::BeyondBytes { .. } => 2,
             Refusal::Unaligned { .. } => 3,
             Refusal::TooLong { .. } => 6,
         }
@@ -36,9 +52,21 @@ impl Refusal {
     pub fn carried(self) -> Vec<u64> {
         match self {
             Refusal::Width { max, width } => vec![max.into(), width.into()],
-            Refusal::Beyond { asked, available } => vec![asked as u64, available as u64],
+            Refusal::BeyondBits { asked, available }
+            | Refusal::BeyondBytes { asked, available } => {
+                vec![asked as u64, available as u64]
+            }
             Refusal::Unaligned { cursor } => vec![cursor as u64],
             Refusal::TooLong { length } => vec![length as u64],
+        }
+    }
+
+    /// The bits of one of what it counts, if it is 2; else 0.
+    pub fn unit(self) -> u64 {
+        match self {
+            Refusal::BeyondBits { .. } => 1,
+            Refusal::BeyondBytes { .. } => 8,
+            _ => 0,
         }
     }
 }
@@ -105,7 +133,7 @@ fn number_end(length: usize, cursor: usize, width: u32, max: u32) -> Result<usiz
     }
     let end = cursor as u128 + u128::from(width);
     if end > length as u128 * 8 {
-        return Err(Refusal::Beyond {
+        return Err(Refusal::BeyondBits {
             asked: width as usize,
             available: bits_remaining(length, cursor),
         });
@@ -121,7 +149,7 @@ fn slice_end(length: usize, cursor: usize, count: usize) -> Result<usize, Refusa
     }
     let end = (cursor / 8) as u128 + count as u128;
     if end > length as u128 {
-        return Err(Refusal::Beyond {
+        return Err(Refusal::BeyondBytes {
             asked: end.min(usize::MAX as u128) as usize,
             available: length,
         });

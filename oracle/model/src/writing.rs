@@ -242,7 +242,7 @@ impl Walk<'_> {
             bits_remaining(self.buffer.len(), self.cursor),
         );
         if asked > available {
-            let refusal = Refusal::Beyond { asked, available };
+            let refusal = Refusal::BeyondBits { asked, available };
             return Err(Fault::Bits { field, refusal });
         }
         Ok(())

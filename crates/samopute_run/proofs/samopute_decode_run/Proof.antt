@@ -58,14 +58,14 @@ use Rattle.samopute_run.proofs.samopute_decode_run as own
 use Rattle.samopute_run.proofs.samopute_decode_run.Statement as stated
 use Rattle.samopute_run.proofs.samopute_decode_run.Code as code
 
--- the five numbers of an answer
-abbrev Five : RattleType
-Five = Array u64 tt 5
+-- the six numbers of an answer
+abbrev Six : RattleType
+Six = Array u64 tt 6
 
 abbrev stayed : Stays (own.ended .signature .params) (own.ended .kept)
 stayed = (
   stay-none-slice (0 ∷ []) tt (plain (λ _. u64)) yes,
-  (stay-none-slice (1 ∷ []) tt (plain (λ _. u8)) yes, (gave-slice (2 ∷ []) tt (plain (λ _. u8)), (gave-slice (3 ∷ []) tt (plain (λ _. R.the-row)), (gave-ref (4 ∷ []) tt (plain (λ _. Five)), tt)))),
+  (stay-none-slice (1 ∷ []) tt (plain (λ _. u8)) yes, (gave-slice (2 ∷ []) tt (plain (λ _. u8)), (gave-slice (3 ∷ []) tt (plain (λ _. R.the-row)), (gave-ref (4 ∷ []) tt (plain (λ _. Six)), tt)))),
 )
 
 abbrev low : Decoded → Val
@@ -156,16 +156,16 @@ module _ {M : Type 1} (𝓤 : URA M) (H : Heap 𝓤) (A : Atoms 𝓤) (W : Given
 
   goes-told : (d : Decoded) → ent 𝓤 (onEntry 𝓤 H A told.signature (κ₀, (κ₄, tt)) (q₀, (q₄, tt)) (asked d) (asked-vals d)) (Told 𝓤 H A mem run .pre (to-told d))
   goes-told d =
-      qed W ((‵ (flft κ₀ q₀) ⊛ (‵ (flft κ₄ q₄) ⊛ ‵ ftrue)) ∷ ‵ (owns (ShrSlice (named 0) κ₀ u64 ∷ usize ∷ D.the-row ∷ MutRef (named 1) κ₄ Five ∷ []) (asked d) (asked-vals d)) ∷ []) ∵ join ! $ frame ! $ done !
+      qed W ((‵ (flft κ₀ q₀) ⊛ (‵ (flft κ₄ q₄) ⊛ ‵ ftrue)) ∷ ‵ (owns (ShrSlice (named 0) κ₀ u64 ∷ usize ∷ D.the-row ∷ MutRef (named 1) κ₄ Six ∷ []) (asked d) (asked-vals d)) ∷ []) ∵ join ! $ frame ! $ done !
 
   -- ## What is left at the end
 
   exits : (r : ℕ) (w : Val) (d : Decoded) (pad : List ℕ) (zs : List Record) (cells : List ℕ)
       → (d ≡ comes) × ((pad ≡ runAfter t (x₁ .now) (x₂ .now)) × (zs ≡ structsAfter t (x₁ .now) (length (x₂ .now)) (x₃ .now))) → (r ≡ decodedStatus d) × (cells ≡ cellsOf t (length (x₁ .now)) d)
       → length pad ≡ length (x₂ .now) → length zs ≡ length (x₃ .now)
-      → ent 𝓤 (⋆ 𝓤 H A (‵ (flft κ₀ q₀) ∷ ‵ (flft κ₁ q₁) ∷ ‵ (flft κ₂ q₂) ∷ ‵ (flft κ₃ q₃) ∷ ‵ (flft κ₄ q₄) ∷ ‵ (u32 .own r (w ∷ [])) ∷ ‵ Own₀ ∷ ‵ Own₁ ∷ ‵ (finally u8 (x₂ .name) pad) ∷ ‵ (finally R.the-row (x₃ .name) zs) ∷ ‵ (fres (x₄ .name) (Five .coded .code cells)) ∷ [])) (Post w)
+      → ent 𝓤 (⋆ 𝓤 H A (‵ (flft κ₀ q₀) ∷ ‵ (flft κ₁ q₁) ∷ ‵ (flft κ₂ q₂) ∷ ‵ (flft κ₃ q₃) ∷ ‵ (flft κ₄ q₄) ∷ ‵ (u32 .own r (w ∷ [])) ∷ ‵ Own₀ ∷ ‵ Own₁ ∷ ‵ (finally u8 (x₂ .name) pad) ∷ ‵ (finally R.the-row (x₃ .name) zs) ∷ ‵ (fres (x₄ .name) (Six .coded .code cells)) ∷ [])) (Post w)
   exits r w d pad zs cells e f lp l =
-      qed W (‵ (flft κ₀ q₀) ∷ ‵ (flft κ₁ q₁) ∷ ‵ (flft κ₂ q₂) ∷ ‵ (flft κ₃ q₃) ∷ ‵ (flft κ₄ q₄) ∷ ‵ (u32 .own r (w ∷ [])) ∷ ‵ Own₀ ∷ ‵ Own₁ ∷ ‵ (finally u8 (x₂ .name) pad) ∷ ‵ (finally R.the-row (x₃ .name) zs) ∷ ‵ (fres (x₄ .name) (Five .coded .code cells)) ∷ []) ∵
+      qed W (‵ (flft κ₀ q₀) ∷ ‵ (flft κ₁ q₁) ∷ ‵ (flft κ₂ q₂) ∷ ‵ (flft κ₃ q₃) ∷ ‵ (flft κ₄ q₄) ∷ ‵ (u32 .own r (w ∷ [])) ∷ ‵ Own₀ ∷ ‵ Own₁ ∷ ‵ (finally u8 (x₂ .name) pad) ∷ ‵ (finally R.the-row (x₃ .name) zs) ∷ ‵ (fres (x₄ .name) (Six .coded .code cells)) ∷ []) ∵
       suffices ! _ (ends-at 𝓤 H A own.ended stayed (own.clauses 𝓤 H A mem run) W (((κ₀, (κ₁, (κ₂, (κ₃, (κ₄, tt))))), (q₀, (q₁, (q₂, (q₃, (q₄, tt))))), tt, a, vals), tt) w r (tt, (tt, (pad, (zs, (cells, tt))))) (tt, (tt, (lp, (l, (tt, tt)))))) $
       says ! (f .0 ∙ ap decodedStatus (e .0), (e .1 .0, (e .1 .1, f .1 ∙ ap (cellsOf t (length (x₁ .now))) (e .0)))) $
       -- the tokens
@@ -176,7 +176,7 @@ module _ {M : Type 1} (𝓤 : URA M) (H : Heap 𝓤) (A : Atoms 𝓤) (W : Given
   module _ (C : Calls 𝓤 H) (Λ : Loops 𝓤 H) (fm : FmC 𝓤 H (W .laws) C) (known-run : Triple 𝓤 (C runs-def.name) (Runs 𝓤 H A mem run)) (known-told : Triple 𝓤 (C told-def.name) (Told 𝓤 H A mem run)) where
     walk : ent 𝓤 (onEntry 𝓤 H A own.signature (κ₀, (κ₁, (κ₂, (κ₃, (κ₄, tt))))) (q₀, (q₁, (q₂, (q₃, (q₄, tt))))) a vals) (WpFn 𝓤 H C Λ code.function (s₀ ∷ s₁ ∷ s₂ ∷ s₃ ∷ s₄ ∷ []) Post)
     walk =
-        qed W ((‵ (flft κ₀ q₀) ⊛ (‵ (flft κ₁ q₁) ⊛ (‵ (flft κ₂ q₂) ⊛ (‵ (flft κ₃ q₃) ⊛ (‵ (flft κ₄ q₄) ⊛ ‵ ftrue))))) ∷ ‵ (owns (ShrSlice (named 0) κ₀ u64 ∷ ShrSlice (named 1) κ₁ u8 ∷ MutSlice (named 2) κ₂ u8 ∷ MutSlice (named 3) κ₃ R.the-row ∷ MutRef (named 4) κ₄ Five ∷ []) a vals) ∷ []) ∵
+        qed W ((‵ (flft κ₀ q₀) ⊛ (‵ (flft κ₁ q₁) ⊛ (‵ (flft κ₂ q₂) ⊛ (‵ (flft κ₃ q₃) ⊛ (‵ (flft κ₄ q₄) ⊛ ‵ ftrue))))) ∷ ‵ (owns (ShrSlice (named 0) κ₀ u64 ∷ ShrSlice (named 1) κ₁ u8 ∷ MutSlice (named 2) κ₂ u8 ∷ MutSlice (named 3) κ₃ R.the-row ∷ MutRef (named 4) κ₄ Six ∷ []) a vals) ∷ []) ∵
         enter ! C Λ code.function (s₀ ∷ s₁ ∷ s₂ ∷ s₃ ∷ s₄ ∷ []) _ $
         alloc1 ! (λ l₀. alloc1 ! (λ l₁. alloc1 ! (λ l₂. alloc1 ! (λ l₃. alloc1 ! (λ l₄. alloc1 ! (λ l₅. alloc1 ! (λ l₆. alloc1 ! (λ l₇. alloc1 ! (λ l₈. alloc1 ! (λ l₉. alloc1 ! (λ l₁₀. alloc1 ! (λ l₁₁. alloc1 ! (λ l₁₂. alloc0 ! $ params1 ! $
         pass1 ! (init ! 22 refl (tt, (tt, (record { fits = room₀ .0 }, tt)))) $ pass1 ! (init ! 20 refl (tt, (tt, (record { fits = room₁ .0 }, tt)))) $ pass1 ! (init ! 18 refl (tt, (tt, (record { fits = room₂ .0 }, tt)))) $ pass1 ! (init ! 16 refl (tt, (tt, (record { fits = room₃ .0 }, tt)))) $ pass1 ! (init ! 14 refl (tt, tt)) $ pass0 ! $
@@ -237,7 +237,7 @@ module _ {M : Type 1} (𝓤 : URA M) (H : Heap 𝓤) (A : Atoms 𝓤) (W : Given
   walks : Walks 𝓤 H A own.ended stayed (WpFn 𝓤 H (𝓣 .C) (𝓣 .Λ) code.function) (own.clauses 𝓤 H A mem run)
   walks = walked 𝓤 H A own.ended stayed (own.clauses 𝓤 H A mem run) (WpFn 𝓤 H (𝓣 .C) (𝓣 .Λ) code.function)
       (λ κs. (slice-vals, (slice-vals, (slice-vals, (slice-vals, (ptr-vals, tt))))))
-      (λ κs. (shr-slice-tells (named 0) (κs .0) u64, (shr-slice-tells (named 1) (κs .1 .0) u8, (mut-slice-tells (named 2) (κs .1 .1 .0) u8, (mut-slice-tells (named 3) (κs .1 .1 .1 .0) R.the-row, (mut-tells (named 4) (κs .1 .1 .1 .1 .0) Five, tt))))))
+      (λ κs. (shr-slice-tells (named 0) (κs .0) u64, (shr-slice-tells (named 1) (κs .1 .0) u8, (mut-slice-tells (named 2) (κs .1 .1 .0) u8, (mut-slice-tells (named 3) (κs .1 .1 .1 .0) R.the-row, (mut-tells (named 4) (κs .1 .1 .1 .1 .0) Six, tt))))))
       (λ κs qs bounds a g are. via 𝓤 _ (fst∗ 𝓤 _ (emp 𝓤))
       (walk 𝓤 H A W mem run (κs .0) (κs .1 .0) (κs .1 .1 .0) (κs .1 .1 .1 .0) (κs .1 .1 .1 .1 .0) (qs .0) (qs .1 .0) (qs .1 .1 .0) (qs .1 .1 .1 .0) (qs .1 .1 .1 .1 .0)
       (a .0) (a .1 .0) (a .1 .1 .0) (a .1 .1 .1 .0) (a .1 .1 .1 .1 .0) (are .0 .0 .1) (are .1 .0 .0 .1) (are .1 .1 .0 .0 .1) (are .1 .1 .1 .0 .0 .1)
@@ -249,7 +249,7 @@ module _ {M : Type 1} (𝓤 : URA M) (H : Heap 𝓤) (A : Atoms 𝓤) (W : Given
         goes-none-slice 𝓤 H A W 5 (0 ∷ []) tt (plain (λ _. u64)) yes,
         (
           goes-none-slice 𝓤 H A W 5 (1 ∷ []) tt (plain (λ _. u8)) yes,
-          (goes-gave-slice 𝓤 H A W 5 2 tt (plain (λ _. u8)), (goes-gave-slice 𝓤 H A W 5 3 tt (plain (λ _. R.the-row)), (goes-gave-ref 𝓤 H A W 5 4 tt (plain (λ _. Five)), tt))),
+          (goes-gave-slice 𝓤 H A W 5 2 tt (plain (λ _. u8)), (goes-gave-slice 𝓤 H A W 5 3 tt (plain (λ _. R.the-row)), (goes-gave-ref 𝓤 H A W 5 4 tt (plain (λ _. Six)), tt))),
         ),
       ) (own.clauses 𝓤 H A mem run) (WpFn 𝓤 H (𝓣 .C) (𝓣 .Λ) code.function) (WpFn-mono 𝓤 H (W .laws) 𝓣 code.function) walks
 

@@ -53,7 +53,7 @@ impl Lent {
         Lent {
             padding: [0; PADDING],
             readings: [0; READINGS],
-            answer: [0; 5],
+            answer: [0; 6],
         }
     }
 }
@@ -146,7 +146,7 @@ fn by_words(words: &[u64], part: Part) -> usize {
 
 /// Ours with the table in words, into structs.
 fn by_run(words: &[u64], part: Part) -> usize {
-    let (mut padding, mut structs, mut answer) = ([0; PADDING], [CReading::EMPTY; MOST], [0; 5]);
+    let (mut padding, mut structs, mut answer) = ([0; PADDING], [CReading::EMPTY; MOST], [0; 6]);
     let mut count = 0;
     for payload in part.payloads() {
         let status = samopute::decode_run(words, payload, &mut padding, &mut structs, &mut answer);

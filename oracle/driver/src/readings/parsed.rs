@@ -98,7 +98,8 @@ fn parsed_outcome(line: &str, count: usize) -> Option<Result<usize, Fault>> {
         },
         ["2", field, asked, available] => Fault::Bits {
             field: number(field)?,
-            refusal: Refusal::Beyond {
+            // The text does not tell the unit, and what it is held against does not either.
+            refusal: Refusal::BeyondBits {
                 asked: number(asked)?,
                 available: number(available)?,
             },

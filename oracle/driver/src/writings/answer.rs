@@ -109,7 +109,7 @@ pub fn fault(number: u32, values: [u64; 3]) -> Option<Fault> {
         }
         2 => {
             let (asked, available) = (two as usize, three as usize);
-            let refusal = Refusal::Beyond { asked, available };
+            let refusal = Refusal::BeyondBits { asked, available };
             Fault::Bits { field, refusal }
         }
         3 => {

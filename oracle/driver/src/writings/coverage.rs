@@ -151,7 +151,7 @@ impl Coverage {
     fn add_fault(&mut self, answers: &Answers, fault: Fault) {
         let (field, what) = match fault {
             Fault::Bits { field, refusal } => match refusal {
-                Refusal::Beyond { .. } => {
+                Refusal::BeyondBits { .. } => {
                     *self.sizes.entry((false, answers.case.size)).or_default() += 1;
                     (field, "F 2")
                 }

@@ -181,7 +181,7 @@ fn of_fault(fields: &[Field], fault: Fault, value: Option<Given>, text: &[u8]) -
 
 /// 3 and 2 of texts and bytes. An absent StringLau asks for its first byte on both sides.
 fn of_bits(field: &Field, refusal: Refusal, length: u64, encoding: Option<u8>) -> Option<Reason> {
-    let is_cut = matches!(refusal, Refusal::Beyond { .. });
+    let is_cut = matches!(refusal, Refusal::BeyondBits { .. });
     match field.kind {
         Kind::StringLau if encoding.is_none() => None,
         Kind::StringLz | Kind::StringLau if is_cut => Some(Reason::TextCut),

@@ -227,7 +227,7 @@ macro_rules! writing_of {
                     width: asked.into(),
                 },
                 BitWriterError::OutOfBounds { asked, available } => {
-                    Refusal::Beyond { asked, available }
+                    Refusal::BeyondBits { asked, available }
                 }
                 BitWriterError::NonAlignedBit { cursor } => Refusal::Unaligned { cursor },
             }

@@ -75,24 +75,22 @@ impl ReadBack {
 fn decoded(case: &Case, payload: &[u8], fields: usize) -> Back {
     let mut padding = [0; PADDING];
     let mut room = vec![0; COUNT + (fields + MORE) * RECORD];
-    let mut answer = [0; 5];
+    let mut answer = [0; 6];
     let status = samopute::decode(&case.words, payload, &mut padding, &mut room, &mut answer);
-    let [count, is_filled, end, ..] = answer;
+    let [count, filled, end, ..] = answer;
     let (records, _) = room[COUNT..].as_chunks::<RECORD>();
     let readings = records.iter().take(count as usize);
-    let table = tables::read(&case.words);
-    let length = reading::filled_length(&table, payload.len()).unwrap_or(0);
     Back {
         status,
         readings: readings
             .map(|one| records::reading(records::numbers(one)))
             .collect(),
         end,
-        payload: match is_filled {
+        payload: match filled {
             0 => payload.to_vec(),
-            _ => padding[..length].to_vec(),
+            _ => padding[..filled as usize].to_vec(),
         },
-        is_filled: is_filled != 0,
+        is_filled: filled != 0,
     }
 }
 

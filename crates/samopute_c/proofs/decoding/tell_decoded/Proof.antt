@@ -24,17 +24,23 @@ carried-requires-2 c κs = search needs
 carried-requires-3 : tie.Need-carried-requires-3
 carried-requires-3 c κs = search needs
 
+unit-requires : tie.Need-unit-requires
+unit-requires c κs = search needs
+
+cast-t19 : tie.Need-cast-t19
+cast-t19 c = search needs
+
 returns : tie.Need-returns
 returns c = sym (ap (decodedCells (c .before .before .before .before .args .filled)) (c .before .before .decoded .given .1))
 
 returns-2 : tie.Need-returns-2
 returns-2 c =
-    let d = c .before .before .before .before .before in
+    let d = c .before .before .before .before .before .before in
     let a = d .before .before .args in
     let count = d .decoded2 .given .0 .1 .0 in
     let e = d .decoded2 .given .0 .0 in
-    ap₂ (λ (x : ℕ) (y : ℕ). count ∷ a .filled ∷ x ∷ y ∷ c .before .carried3 .result ∷ []) (c .before .before .before .carried .ensures) (c .before .before .carried2 .ensures)
-    ∙ ap (λ (z : ℕ). count ∷ a .filled ∷ getD (carriedOf e) 0 0 ∷ getD (carriedOf e) 1 0 ∷ z ∷ []) (c .before .carried3 .ensures)
+    ap₂ (λ (x : ℕ) (y : ℕ). count ∷ a .filled ∷ x ∷ y ∷ c .before .before .carried3 .result ∷ c .before .unit .result ∷ []) (c .before .before .before .before .carried .ensures) (c .before .before .before .carried2 .ensures)
+    ∙ ap₂ (λ (x : ℕ) (y : ℕ). count ∷ a .filled ∷ getD (carriedOf e) 0 0 ∷ getD (carriedOf e) 1 0 ∷ x ∷ y ∷ []) (c .before .before .carried3 .ensures) (c .before .unit .ensures)
     ∙ sym (ap (decodedCells (a .filled)) (d .decoded2 .given .1))
 
 pub tell-decoded-spec : {M : Type 1} → statement M
@@ -46,5 +52,7 @@ tell-decoded-spec =
     carried-requires
     carried-requires-2
     carried-requires-3
+    unit-requires
+    cast-t19
     returns
     returns-2)

@@ -46,7 +46,7 @@ fn by_ours(call: impl Fn(&mut [u8], &mut [u8], &mut Decoded) -> u32) -> Vec<Kept
 }
 
 fn by_run(words: &[u64], payload: &[u8]) -> Vec<Kept> {
-    let (mut padding, mut answer) = ([0; PADDING], [0; 5]);
+    let (mut padding, mut answer) = ([0; PADDING], [0; 6]);
     let mut structs = [CReading::EMPTY; MOST];
     let status = samopute::decode_run(words, payload, &mut padding, &mut structs, &mut answer);
     assert_eq!(status, 0);

@@ -13,15 +13,15 @@ use model::numbers::Kind;
 use model::reading::PADDING;
 use model::tables::Table;
 
-/// Version 1.2.
-const VERSION: u32 = 1 << 16 | 2;
+/// Version 2.0.
+const VERSION: u32 = 2 << 16;
 
 const NONE: u64 = u64::MAX;
 
 pub fn run(report: &mut Report) {
     let version = samopute::version();
     let outcome = match version {
-        VERSION => Ok("1.2".to_string()),
+        VERSION => Ok("2.0".to_string()),
         _ => Err(format!("{version}, where {VERSION} is wanted")),
     };
     report.line("the version of the interface", outcome);
@@ -58,7 +58,7 @@ struct Exact {
     payload: &'static [u8],
     length: usize,
     status: u32,
-    answer: [u64; 5],
+    answer: samopute::Decoded,
     /// The records; the count comes before them.
     records: &'static [[u64; 8]],
 }
@@ -67,7 +67,7 @@ fn records() -> Result<String, String> {
     let all = exact();
     for (i, one) in all.iter().enumerate() {
         let (mut padding, mut readings) = ([0; PADDING], vec![0; one.length + BEHIND]);
-        let mut answer = [NONE; 5];
+        let mut answer = [NONE; 6];
         let (words, payload) = (pack(&one.table), one.payload.to_vec());
         let lent = &mut readings[..one.length];
         let status = samopute::decode(&words, &payload, &mut padding, lent, &mut answer);
@@ -86,7 +86,7 @@ fn structs() -> Result<String, String> {
     for (i, one) in all.iter().enumerate() {
         let room = one.length.saturating_sub(COUNT) / RECORD;
         let (mut padding, mut structs) = ([0; PADDING], vec![CReading::EMPTY; room + 1]);
-        let mut answer = [NONE; 5];
+        let mut answer = [NONE; 6];
         let (words, payload) = (pack(&one.table), one.payload.to_vec());
         let lent = &mut structs[..room];
         let status = samopute::decode_run(&words, &payload, &mut padding, lent, &mut answer);
@@ -132,7 +132,7 @@ fn exact() -> Vec<Exact> {
             payload: cog_sog,
             length: COUNT + 4 * RECORD + 9,
             status: 0,
-            answer: [4, 0, 64, 0, 0],
+            answer: [4, 0, 64, 0, 0, 0],
             records: &[
                 [0, NONE, 0, 8, 0x1_0400, 0x2A, 0x2A, 0],
                 [1, NONE, 8, 2, 0x1_0400, 0, 0, 0],
@@ -146,7 +146,7 @@ fn exact() -> Vec<Exact> {
             payload: cog_sog,
             length: COUNT + 2 * RECORD - 1,
             status: 9,
-            answer: [1, 0, 1, 0, 0],
+            answer: [1, 0, 1, 0, 0, 0],
             records: &[[0, NONE, 0, 8, 0x1_0400, 0x2A, 0x2A, 0]],
         },
         // No room for the count.
@@ -155,7 +155,7 @@ fn exact() -> Vec<Exact> {
             payload: cog_sog,
             length: COUNT - 1,
             status: 9,
-            answer: [0, 0, 0, 0, 0],
+            answer: [0, 0, 0, 0, 0, 0],
             records: &[],
         },
         // Filled from 1 byte to 4: a text that is there, and one of fill, not available.
@@ -168,7 +168,7 @@ fn exact() -> Vec<Exact> {
             payload: &[0x41],
             length: COUNT + 2 * RECORD,
             status: 0,
-            answer: [2, 1, 32, 0, 0],
+            answer: [2, 4, 32, 0, 0, 0],
             records: &[
                 [0, NONE, 0, 8, 0x0B00, 0, 0, 1],
                 [1, NONE, 8, 24, 0x0B01, 0, 1, 3],
@@ -180,19 +180,45 @@ fn exact() -> Vec<Exact> {
             payload: &[3, 1, 0x41, 2, 7],
             length: COUNT + 2 * RECORD,
             status: 0,
-            answer: [2, 0, 40, 0, 0],
+            answer: [2, 0, 40, 0, 0, 0],
             records: &[
                 [0, NONE, 0, 24, 0x01_0100_0B00, 0, 2, 1],
                 [1, NONE, 24, 16, 0x07_0100_0B01, 0, 0, 0],
             ],
         },
-        // Refusal 2 names its field first.
+        // Refusal 2 names its field first, and counts bits.
         Exact {
             table: table(&[field(Kind::Date, 16)], &[]),
             payload: &[0],
             length: COUNT,
             status: 2,
-            answer: [0, 0, 0, 16, 8],
+            answer: [0, 0, 0, 16, 8, 1],
+            records: &[],
+        },
+        // Two that carry the same: 7 of the 8 bits of a length byte, and 7 of 8 bytes.
+        Exact {
+            table: table(&[field(Kind::Number, 1), bare(Kind::StringLau)], &[]),
+            payload: &[0],
+            length: COUNT + RECORD,
+            status: 2,
+            answer: [1, 0, 1, 8, 7, 1],
+            records: &[[0, NONE, 0, 1, 0x1_0400, 0, 0, 0]],
+        },
+        Exact {
+            table: table(&[field(Kind::Number, 8), bare(Kind::StringLau)], &[]),
+            payload: &[0, 7, 1, 0x41, 0x42, 0x43, 0x44],
+            length: COUNT + RECORD,
+            status: 2,
+            answer: [1, 0, 1, 8, 7, 8],
+            records: &[[0, NONE, 0, 8, 0x1_0400, 0, 0, 0]],
+        },
+        // Bytes of a filled payload: refused in its length, not in that of what was received.
+        Exact {
+            table: sized(3, 1, &[field(Kind::Binary, 32)]),
+            payload: &[0x41],
+            length: COUNT,
+            status: 2,
+            answer: [0, 3, 0, 4, 3, 8],
             records: &[],
         },
         // Rule b.
@@ -201,7 +227,7 @@ fn exact() -> Vec<Exact> {
             payload: &[0],
             length: 0,
             status: 8,
-            answer: [0, 0, 2, 0, 0],
+            answer: [0, 0, 2, 0, 0, 0],
             records: &[],
         },
     ]

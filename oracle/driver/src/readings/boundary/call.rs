@@ -23,8 +23,8 @@ pub enum Call {
 #[derive(Clone, Debug, PartialEq, Eq)]
 pub struct Taken {
     pub(super) status: u32,
-    /// The five numbers, with one that is not lent on each side.
-    pub(super) answer: [u64; 7],
+    /// The six numbers, with one that is not lent on each side.
+    pub(super) answer: [u64; 8],
     pub(super) after: Buffers,
     pub(super) before: Buffers,
     /// Whether the words and the payload are as they were.
@@ -36,8 +36,8 @@ impl Taken {
         let before = Buffers::new(case);
         let mut after = before.clone();
         let words = case.words.clone();
-        let mut answer = [BEFORE; 7];
-        let (payload, lent) = (before.payload(), five(&mut answer));
+        let mut answer = [BEFORE; 8];
+        let (payload, lent) = (before.payload(), six(&mut answer));
         let (padding, readings) = (after.padding.bytes_mut(), after.readings.bytes_mut());
         let status = match call {
             Call::Words => samopute::decode(&words, payload, padding, readings, lent),
@@ -56,12 +56,12 @@ impl Taken {
 
     /// What a call leaves that touches no buffer.
     pub fn untouched(&self, status: u32, carried: [u64; 3]) -> Taken {
-        self.wanted(status, [0, 0, carried[0], carried[1], carried[2]])
+        self.wanted(status, [0, 0, carried[0], carried[1], carried[2], 0])
     }
 
     fn wanted(&self, status: u32, numbers: Decoded) -> Taken {
-        let mut answer = [BEFORE; 7];
-        *five(&mut answer) = numbers;
+        let mut answer = [BEFORE; 8];
+        *six(&mut answer) = numbers;
         Taken {
             status,
             answer,
@@ -81,8 +81,11 @@ impl Taken {
             return self.untouched(answer.number(), [one, two, three]);
         }
         let count = answer.readings.len() as u64;
-        let is_filled = u64::from(!answer.padding.is_empty());
-        let mut taken = self.wanted(answer.number(), [count, is_filled, one, two, three]);
+        // The run is told by the model up to its last changed byte: where it is filled, that is its length.
+        let filled = answer.padding.len() as u64;
+        let unit = answer.outcome.err().map_or(0, records::unit);
+        let numbers = [count, filled, one, two, three, unit];
+        let mut taken = self.wanted(answer.number(), numbers);
         taken.after.padding.put(0, &answer.padding);
         let readings = &mut taken.after.readings;
         if readings.bytes().len() >= COUNT {
@@ -130,7 +133,7 @@ impl Taken {
                 writeln!(text, "written outside: {name}, byte {at}").unwrap();
             }
         }
-        if [self.answer[0], self.answer[6]] != [BEFORE; 2] {
+        if [self.answer[0], self.answer[7]] != [BEFORE; 2] {
             writeln!(text, "written outside: answer").unwrap();
         }
         if let Some(at) = self.changed_behind() {
@@ -156,9 +159,9 @@ impl Taken {
     }
 }
 
-/// The five numbers that are lent.
-pub fn five(all: &mut [u64; 7]) -> &mut Decoded {
-    (&mut all[1..6]).try_into().expect("five numbers")
+/// The six numbers that are lent.
+pub fn six(all: &mut [u64; 8]) -> &mut Decoded {
+    (&mut all[1..7]).try_into().expect("six numbers")
 }
 
 impl Given for Taken {
@@ -168,19 +171,19 @@ impl Given for Taken {
 
     /// Read from the records also where they are the model's.
     fn answer(&self, _is_the_models: bool) -> Option<Answer> {
-        let [_, count, is_filled, one, rest @ .., _] = self.answer;
+        let [_, count, filled, one, rest @ .., unit, _] = self.answer;
         let outcome = match (self.status, rest) {
-            (0, [0, 0]) => Ok(one as usize),
+            (0, [0, 0]) if unit == 0 => Ok(one as usize),
             (0, _) => return None,
-            (number, [two, three]) => Err(records::fault(number, [one, two, three])?),
+            (number, [two, three]) => Err(records::fault(number, [one, two, three], unit)?),
         };
         let answer = Answer {
             readings: self.readings()?,
             outcome,
             padding: self.padding(),
         };
-        let is_whole = count == answer.readings.len() as u64
-            && is_filled == u64::from(!answer.padding.is_empty());
+        let is_whole =
+            count == answer.readings.len() as u64 && filled == answer.padding.len() as u64;
         is_whole.then_some(answer)
     }
 
@@ -198,7 +201,7 @@ impl Given for Taken {
         format!(
             "{said}status {}, answer {:X?}, readings in {} bytes\n{}",
             self.status,
-            &self.answer[1..6],
+            &self.answer[1..7],
             readings.len(),
             self.strayed()
         )

@@ -119,8 +119,16 @@ pub fn carried(fault: Fault) -> [u64; 3] {
     all
 }
 
-/// The refusal of a number, if it has what it carries and 0 behind it.
-pub fn fault(number: u32, [one, two, three]: [u64; 3]) -> Option<Fault> {
+/// What refusal 2 counts, in bits; 0 of any other.
+pub fn unit(fault: Fault) -> u64 {
+    match fault {
+        Fault::Bits { refusal, .. } => refusal.unit(),
+        _ => 0,
+    }
+}
+
+/// The refusal of a number, if it has what it carries and 0 behind it, and counts in its unit.
+pub fn fault(number: u32, [one, two, three]: [u64; 3], unit_told: u64) -> Option<Fault> {
     let field = one as usize;
     let (fault, rest) = match number {
         1 => {
@@ -130,7 +138,10 @@ pub fn fault(number: u32, [one, two, three]: [u64; 3]) -> Option<Fault> {
         }
         2 => {
             let (asked, available) = (two as usize, three as usize);
-            let refusal = Refusal::Beyond { asked, available };
+            let refusal = match unit_told {
+                8 => Refusal::BeyondBytes { asked, available },
+                _ => Refusal::BeyondBits { asked, available },
+            };
             (Fault::Bits { field, refusal }, [0; 2])
         }
         3 => {
@@ -157,5 +168,5 @@ pub fn fault(number: u32, [one, two, three]: [u64; 3]) -> Option<Fault> {
         9 => (Fault::NoRoom { field }, [two, three]),
         _ => return None,
     };
-    (rest == [0; 2]).then_some(fault)
+    (rest == [0; 2] && unit_told == unit(fault)).then_some(fault)
 }

@@ -1,6 +1,6 @@
 //! samopute_decode_run on the cases of samopute_decode: the same status, numbers and padding run, and each
 //! struct its record.
-use super::call::{BEFORE, Taken, five};
+use super::call::{BEFORE, Taken, six};
 use super::records::{self, COUNT, RECORD};
 use crate::readings::case::Case;
 use crate::readings::smallest::is_smaller;
@@ -58,7 +58,7 @@ impl Test {
 fn difference(case: &Case, taken: &Taken) -> Option<&'static str> {
     let room = case.room as usize;
     let words = case.words.clone();
-    let (mut padding, mut answer) = (taken.before.padding.clone(), [BEFORE; 7]);
+    let (mut padding, mut answer) = (taken.before.padding.clone(), [BEFORE; 8]);
     // One that is not lent on each side.
     let mut structs = vec![POISON; room + 2];
     let payload = taken.before.payload();
@@ -67,7 +67,7 @@ fn difference(case: &Case, taken: &Taken) -> Option<&'static str> {
         payload,
         padding.bytes_mut(),
         &mut structs[1..=room],
-        five(&mut answer),
+        six(&mut answer),
     );
     let (words, payload) = black_box((&words[..], payload));
     let parts = [
