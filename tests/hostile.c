@@ -36,11 +36,14 @@ static uint64_t seed;
 static uint64_t this_round;
 static const char *volatile this_call = "none";
 
+/* The largest status that the header names. */
+#define STATUS_MAX SAMOPUTE_UNKNOWN_PGN
+
 /* How often each status was answered by a decode, by one into structs, by an encode, and by any other call. */
-static uint64_t decoded[16];
-static uint64_t run_decoded[16];
-static uint64_t encoded[16];
-static uint64_t answered[16];
+static uint64_t decoded[STATUS_MAX + 1];
+static uint64_t run_decoded[STATUS_MAX + 1];
+static uint64_t encoded[STATUS_MAX + 1];
+static uint64_t answered[STATUS_MAX + 1];
 
 /* How often refusal 2 of a decode counted bits, and bytes. */
 static uint64_t beyond_bits;
@@ -216,7 +219,7 @@ static int same(const void *a, const void *b, size_t length)
 
 static void tally(uint64_t *counts, uint32_t status)
 {
-    hold(status < 16, "a status over 15");
+    hold(status <= STATUS_MAX, "a status that the header does not name");
     counts[status]++;
 }
 
@@ -1281,7 +1284,7 @@ static void tell_counts(const char *name, const uint64_t *counts)
 {
     int i;
     printf("%s by status:", name);
-    for (i = 0; i < 16; i++) {
+    for (i = 0; i <= STATUS_MAX; i++) {
         if (counts[i] > 0) {
             printf(" %d (%" PRIu64 ")", i, counts[i]);
         }

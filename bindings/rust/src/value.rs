@@ -2,18 +2,22 @@
 
 /// Whether a field says something.
 #[derive(Clone, Copy, Debug, PartialEq, Eq)]
+#[non_exhaustive]
 pub enum Availability {
     /// It says something.
     Available,
     /// It says "not available".
     NotAvailable,
+    /// A state that this crate does not know, by its number. The library that it is for answers none.
+    Other(u64),
 }
 
 impl Availability {
     pub(crate) const fn of(code: u64) -> Availability {
         match code {
             0 => Availability::Available,
-            _ => Availability::NotAvailable,
+            1 => Availability::NotAvailable,
+            other => Availability::Other(other),
         }
     }
 }
