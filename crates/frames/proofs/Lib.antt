@@ -1,6 +1,12 @@
+-- a line byte by byte: a bad one stays bad; how many digits, and which are the PGN
 mod Counting
+-- the value of a digit by the range that its byte lies in
 mod Digits
+-- a line fed in any pieces is what document 01 says of it, and the buffer holds its payload
 pub mod Exact
+-- what is known of a line so far, with what is to come, is what is known in the end
 mod Feeding
+-- no turn of a built-in message gives 9 in the printing program
 mod Room
+-- every contract of a call that puts no text leaves one answer and one content of each lent buffer
 mod OneAnswer
