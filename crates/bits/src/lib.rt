@@ -15,7 +15,9 @@ mod refusals;
 mod runs;
 mod writes;
 
+pub use crate::limits::least;
 pub use crate::limits::room_for;
+pub use crate::limits::sum;
 
 // A place in a buffer, or a distance, in bits.
 pub struct BitPos(pub usize);

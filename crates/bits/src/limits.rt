@@ -13,7 +13,8 @@ const WIDTH_MAX: u32 = 64;
 
 const MOST: usize = 0xffff_ffff_ffff_ffff;
 
-pub(crate) fn least(a: usize, b: usize) -> usize
+// The smaller of the two. Public, as `sum` is, so that it is written and proved once.
+pub fn least(a: usize, b: usize) -> usize
     ensures { λ r. ⌜ r ≡ min a b ⌝ }
 {
     if a < b { a } else { b }
@@ -27,7 +28,7 @@ pub(crate) fn less(a: usize, b: usize) -> usize
 }
 
 // a + b, saturating.
-fn sum(a: usize, b: usize) -> usize
+pub fn sum(a: usize, b: usize) -> usize
     ensures { λ r. ⌜ r ≡ saturated (a + b) ⌝ }
 {
     if a <= MOST - b { a + b } else { MOST }

@@ -2,6 +2,7 @@
 // its longest text and answers where the text ends.
 ghost use Prim.Native.Nat.{_+_, _≤_};
 ghost use lib.ListN.{length};
+ghost use Rattle.tables.specs.Check.{payloadMax};
 use textio::put;
 use textio::put_number;
 use textio::put_pairs;
@@ -27,7 +28,7 @@ fn put_refusal(out: &mut [u8], at: usize, e: EncodeRefusal) -> usize
 
 // The frame: its PGN and the bytes used, which are never more than the buffer has.
 fn put_frame(out: &mut [u8], at: usize, pgn: u32, payload: &[u8], used: usize) -> usize
-    requires { ⌜ (length (now payload) ≤ 223) × (at + 1000 ≤ length (now out)) ⌝ }
+    requires { ⌜ (length (now payload) ≤ payloadMax) × (at + 1000 ≤ length (now out)) ⌝ }
     ensures { λ r. ⌜ r ≤ at + 1000 ⌝ }
 {
     let a = frames::put_pgn(out, at, pgn);
@@ -45,7 +46,7 @@ pub(crate) fn put_message(
     payload: &[u8],
     encoded: Encoded,
 ) -> usize
-    requires { ⌜ (length (now payload) ≤ 223) × (at + 1000 ≤ length (now out)) ⌝ }
+    requires { ⌜ (length (now payload) ≤ payloadMax) × (at + 1000 ≤ length (now out)) ⌝ }
     ensures { λ r. ⌜ r ≤ at + 1000 ⌝ }
 {
     match encoded {

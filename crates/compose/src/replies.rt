@@ -8,7 +8,6 @@ use crate::orders;
 use frames::Frame;
 use frames::Known;
 use frames::Message;
-use frames::PAYLOAD_MAX;
 use textio::Lines;
 use textio::next_line;
 use writing::Encoded;
@@ -66,7 +65,7 @@ fn by_pgn(pgn: u32, values: &[u8], lent: &[u8], out: &mut [u8], at: Lines) -> Li
 {
     match frames::message_of(pgn) {
         Known::Message(message) => {
-            let mut payload = [0u8; PAYLOAD_MAX];
+            let mut payload = [0u8; tables::PAYLOAD_MAX];
             let encoded = encode(message, values, lent, &mut payload);
             let to = answers::put_message(out, at.waiting, pgn, &payload, encoded);
             next_line(out, to, at)

@@ -14,7 +14,7 @@ use Rattle.descriptor.specs.declared.FieldKind.{FieldKind}
 use Rattle.descriptor.specs.declared.FieldKind.the-variants as kind
 use Rattle.tables.specs.Table.{Table}
 use Rattle.tables.specs.Rules.{classOf, within, wholeBytes, widthFits}
-use Rattle.tables.specs.Check.{checkOf}
+use Rattle.tables.specs.Check.{checkOf, payloadMax}
 use Rattle.tables.specs.declared.Checked.the-variants.{Accepted}
 use Rattle.tables.proofs.Accepted.{between, widths}
 use Rattle.fields.specs.declared.Shape.{Shape}
@@ -61,13 +61,13 @@ bits-width kind.Time w s h = between 1 64 w h
 bits-width kind.Decimal w s h = between 1 64 w h
 bits-width kind.Unimplemented w s h = between 1 64 w h
 
-pub room-only : (size at w : ℕ) → size ≤ 223 → 1 ≤ w → w ≤ 64 → roomOf size at w widthMax ≡ refuse (ltb (size * 8) (at + w)) (OutOfBits (bits w) (bits (size * 8 - at))) room.Fits
+pub room-only : (size at w : ℕ) → size ≤ payloadMax → 1 ≤ w → w ≤ 64 → roomOf size at w widthMax ≡ refuse (ltb (size * 8) (at + w)) (OutOfBits (bits w) (bits (size * 8 - at))) room.Fits
 room-only size at w l a b =
     let m : size ≤ 65536 = omega (arith, l) in
     let n : w ≡ 0 → ⊥ = λ z. omega (arith, z, a) in
     rw (le-ltb 65536 size m, ne-eqb w 0 n, le-ltb 64 w b)
 
-pub cut-short : (t : Table) → checkOf t ≡ Accepted → (i : ℕ) → i < t .count → inBits (shapeOf (t .field i)) ≡ true → (size : ℕ) → size ≤ 223 → (at : ℕ)
+pub cut-short : (t : Table) → checkOf t ≡ Accepted → (i : ℕ) → i < t .count → inBits (shapeOf (t .field i)) ≡ true → (size : ℕ) → size ≤ payloadMax → (at : ℕ)
     → roomOf size at (t .field i .width) widthMax ≡ refuse (ltb (size * 8) (at + t .field i .width)) (OutOfBits (bits (t .field i .width)) (bits (size * 8 - at))) room.Fits
 cut-short t ok i l s size small at =
     let w = bits-width (t .field i .kind) (t .field i .width) s (widths t ok i l) in

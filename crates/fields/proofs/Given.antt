@@ -14,7 +14,7 @@ use Rattle.bits.specs.declared.BitRefusal.the-variants.{NonAlignedBit, OutOfBit
 use Rattle.bits.specs.declared.Room.{Room}
 use Rattle.bits.specs.declared.Room.the-variants as room
 use Rattle.tables.specs.Table.{Table}
-use Rattle.tables.specs.Check.{checkOf}
+use Rattle.tables.specs.Check.{checkOf, payloadMax}
 use Rattle.tables.specs.declared.Checked.the-variants.{Accepted}
 use Rattle.fields.specs.declared.Shape.{Shape}
 use Rattle.fields.specs.declared.Shape.the-variants.{Number, Gap, Fixed, Whole, Lau, Lz}
@@ -40,12 +40,12 @@ beyond size at w true = beyond-bits
 beyond size at w false = fits
 
 -- a number or a skipped field
-pub bits-fair : (t : Table) → checkOf t ≡ Accepted → (i : ℕ) → i < t .count → inBits (shapeOf (t .field i)) ≡ true → (size : ℕ) → size ≤ 223 → (at : ℕ)
+pub bits-fair : (t : Table) → checkOf t ≡ Accepted → (i : ℕ) → i < t .count → inBits (shapeOf (t .field i)) ≡ true → (size : ℕ) → size ≤ payloadMax → (at : ℕ)
     → Fair (roomOf size at (t .field i .width) widthMax)
 bits-fair t ok i l s size small at =
     subst Fair (sym (cut-short t ok i l s size small at)) (beyond size at (t .field i .width) (ltb (size * 8) (at + t .field i .width)))
 
-module _ (p : Payload) (small : p .size ≤ 223) (at : ℕ) where
+module _ (p : Payload) (small : p .size ≤ payloadMax) (at : ℕ) where
   -- a length byte or an encoding byte
   byte-fair : Fair (roomAt p at 8)
   byte-fair = subst Fair (sym (room-only (p .size) at 8 small (omega arith) (omega arith))) (beyond (p .size) at 8 (ltb (p .size * 8) (at + 8)))
@@ -92,15 +92,15 @@ either : (b : Bool) (x y : Taken) → Given x → Given y → Given (pick b x y)
 either true x y h k = h
 either false x y h k = k
 
-module _ (p : Payload) (small : p .size ≤ 223) (i at : ℕ) where
+module _ (p : Payload) (small : p .size ≤ payloadMax) (i at : ℕ) where
   lau-given : (len : ℕ) → Given (lauTaken p i at len)
   lau-given len =
-      either (ltb 223 len) _ _ refl
+      either (ltb payloadMax len) _ _ refl
       (either (ltb len 2) (Took 8) _ tt
       (if-room i _ (byte-fair p small (at + 8)) (if-room i (Took (16 + 8 * (len - 2))) (text-fair p small (at + 16) (len - 2)) tt)))
 
   lz-given : (len : ℕ) → Given (lzTaken p i at len)
-  lz-given len = either (ltb 223 len) _ _ refl (if-room i (Took _) (text-fair p small (at + 8) len) tt)
+  lz-given len = either (ltb payloadMax len) _ _ refl (if-room i (Took _) (text-fair p small (at + 8) len) tt)
 
   taken-given : (sh : Shape) (early : Bool) (w : ℕ) → (inBits sh ≡ true → Fair (roomAt p at w)) → Given (takenBy sh p i early w at)
   taken-given (Number strict) early w f = short-of strict i (Took w) (f refl) tt
@@ -110,6 +110,6 @@ module _ (p : Payload) (small : p .size ≤ 223) (i at : ℕ) where
   taken-given Lau early w f = if-room i _ (byte-fair p small at) (lau-given (p .bits at 8))
   taken-given Lz early w f = if-room i _ (byte-fair p small at) (lz-given (p .bits at 8))
 
-pub field-given : (t : Table) → checkOf t ≡ Accepted → (i : ℕ) → i < t .count → (p : Payload) → p .size ≤ 223 → (early : Bool) (at : ℕ) → Given (takenOf p (t .field i) i early at)
+pub field-given : (t : Table) → checkOf t ≡ Accepted → (i : ℕ) → i < t .count → (p : Payload) → p .size ≤ payloadMax → (early : Bool) (at : ℕ) → Given (takenOf p (t .field i) i early at)
 field-given t ok i l p small early at =
     taken-given p small i at (shapeOf (t .field i)) early (t .field i .width) (λ s. bits-fair t ok i l s (p .size) small at)

@@ -9,6 +9,7 @@ use Rattle.bits.specs.Bits.{pick}
 use Rattle.bits.specs.declared.Room.{Room}
 use Rattle.bits.specs.declared.Room.the-variants as room
 use Rattle.bits.proofs.Rooms.{fitting, whole}
+use Rattle.tables.specs.Check.{payloadMax}
 use Rattle.fields.specs.declared.DecodeRefusal.{DecodeRefusal}
 use Rattle.fields.specs.declared.DecodeRefusal.the-variants.{InvalidDataLength}
 use Rattle.fields.specs.declared.Shape.{Shape}
@@ -79,7 +80,7 @@ module _ (p : Payload) (at : ℕ) where
   lau-in i len f =
       let text : Taken = ifRoom (textRoom p (at + 16) (len - 2)) i (Took (16 + 8 * (len - 2))) in
       let more : Taken = ifRoom (roomAt p (at + 8) 8) i text in
-      if-either (ltb 223 len) (Refused (InvalidDataLength i)) (pick (ltb len 2) (Took 8) more) (λ h. refused)
+      if-either (ltb payloadMax len) (Refused (InvalidDataLength i)) (pick (ltb len 2) (Took 8) more) (λ h. refused)
       (λ h. if-either (ltb len 2) (Took 8) more (λ k. inside f)
       (λ k. if-room (roomAt p (at + 8) 8) i text
       (λ e. if-room (textRoom p (at + 16) (len - 2)) i (Took (16 + 8 * (len - 2)))
@@ -88,7 +89,7 @@ module _ (p : Payload) (at : ℕ) where
   lz-in : (i len : ℕ) → Fits 8 → Inside (lzTaken p i at len)
   lz-in i len f =
       let n : ℕ = closedAt p at (8 + 8 * len) in
-      if-either (ltb 223 len) (Refused (InvalidDataLength i)) (ifRoom (textRoom p (at + 8) len) i (Took n)) (λ h. refused)
+      if-either (ltb payloadMax len) (Refused (InvalidDataLength i)) (ifRoom (textRoom p (at + 8) len) i (Took n)) (λ h. refused)
       (λ h. if-room (textRoom p (at + 8) len) i (Took n) (λ t. inside {n = n} (closed-in (8 + 8 * len) (text-in 8 len f t))))
 
   pub taken-in : (sh : Shape) (i : ℕ) (early : Bool) (w : ℕ) → Inside (takenBy sh p i early w at)

@@ -20,6 +20,7 @@ use Rattle.bits.specs.declared.ReadU8.the-variants as read8
 use Rattle.descriptor.specs.declared.Encoding.the-variants as encoding
 use Rattle.descriptor.specs.declared.FieldDescriptor.{FieldDescriptor}
 use Rattle.numbers.specs.Scaling.{scaleOf}
+use Rattle.tables.specs.Check.{payloadMax}
 use Rattle.fields.specs.declared.DecodeRefusal.the-variants.{InvalidDataLength}
 use Rattle.fields.specs.declared.Raw.the-variants as raw
 use Rattle.fields.specs.declared.Shape.{Shape}
@@ -71,12 +72,12 @@ module _ (s : List ℕ) (c : Cursor) (n v : ℕ) (d : Cursor) where
 -- ## StringLau
 
 -- a length byte over 223, of whatever it is the length
-pub too-long : (i len : ℕ) (later : Taken) (sh : Shape) (f : FieldDescriptor) (p : Payload) (at : ℕ) → 223 < len
+pub too-long : (i len : ℕ) (later : Taken) (sh : Shape) (f : FieldDescriptor) (p : Payload) (at : ℕ) → payloadMax < len
     → read.Refused (InvalidDataLength i) ≡ readOver (ifLength i len later) sh f p at
-too-long i len later sh f p at l = ap (λ (b : Bool). readOver (pick b (taken.Refused (InvalidDataLength i)) later) sh f p at) (sym (lt-ltb 223 len l))
+too-long i len later sh f p at l = ap (λ (b : Bool). readOver (pick b (taken.Refused (InvalidDataLength i)) later) sh f p at) (sym (lt-ltb payloadMax len l))
 
-short-enough : (i len : ℕ) (later : Taken) → len ≤ 223 → later ≡ ifLength i len later
-short-enough i len later l = ap (λ (b : Bool). pick b (taken.Refused (InvalidDataLength i)) later) (sym (le-ltb 223 len l))
+short-enough : (i len : ℕ) (later : Taken) → len ≤ payloadMax → later ≡ ifLength i len later
+short-enough i len later l = ap (λ (b : Bool). pick b (taken.Refused (InvalidDataLength i)) later) (sym (le-ltb payloadMax len l))
 
 module _ (f : FieldDescriptor) (s : List ℕ) (i at len : ℕ) where
   abbrev p : Payload
@@ -92,7 +93,7 @@ module _ (f : FieldDescriptor) (s : List ℕ) (i at len : ℕ) where
   lau-more : 2 ≤ len → rest ≡ pick (ltb len 2) (taken.Took 8) rest
   lau-more l = ap (λ (b : Bool). pick b (taken.Took 8) rest) (sym (le-ltb len 2 l))
 
-  pub lau-empty : len ≤ 223 → len < 2 → textRead room.Fits i 8 0 0 encoding.Absent ≡ readOver (lauTaken p i at len) shape.Lau f p at
+  pub lau-empty : len ≤ payloadMax → len < 2 → textRead room.Fits i 8 0 0 encoding.Absent ≡ readOver (lauTaken p i at len) shape.Lau f p at
   lau-empty l m = ap (λ (t : Taken). readOver t shape.Lau f p at) (lau-none m ∙ short-enough i len _ l)
 
   -- the encoding byte as it was read
@@ -113,7 +114,7 @@ module _ (f : FieldDescriptor) (s : List ℕ) (i at len : ℕ) where
   lau-says room.Fits = text-in (textRoom p (at + 16) (len - 2))
   lau-says (room.Refused e) = refl
 
-  pub lau-text : len ≤ 223 → 2 ≤ len → lauSays (as8 (readIn (roomAt p (at + 8) 8) s (cursorAt (at + 8)) 8)) ≡ readOver (lauTaken p i at len) shape.Lau f p at
+  pub lau-text : len ≤ payloadMax → 2 ≤ len → lauSays (as8 (readIn (roomAt p (at + 8) 8) s (cursorAt (at + 8)) 8)) ≡ readOver (lauTaken p i at len) shape.Lau f p at
   lau-text l m = lau-says (roomAt p (at + 8) 8) ∙ ap (λ (t : Taken). readOver t shape.Lau f p at) (lau-more m ∙ short-enough i len _ l)
 
 -- ## Length bytes
@@ -135,7 +136,7 @@ lz-in : (r : Room) (f : FieldDescriptor) (p : Payload) (i at len n : ℕ) → le
 lz-in room.Fits f p i at len n h = ap (λ (x : ℕ). read.Got (bits n) raw.Absent (textAt (at / 8 + 1) x encoding.Absent)) h
 lz-in (room.Refused e) f p i at len n h = refl
 
-pub lz-text : (f : FieldDescriptor) (p : Payload) (i at len : ℕ) → len ≤ 223 → len ≡ p .bits at 8
+pub lz-text : (f : FieldDescriptor) (p : Payload) (i at len : ℕ) → len ≤ payloadMax → len ≡ p .bits at 8
     → textRead (textRoom p (at + 8) len) i (closedAt p at (8 + 8 * len)) (at / 8 + 1) len encoding.Absent ≡ readOver (lzTaken p i at len) shape.Lz f p at
 lz-text f p i at len l h =
     lz-in (textRoom p (at + 8) len) f p i at len (closedAt p at (8 + 8 * len)) h ∙ ap (λ (t : Taken). readOver t shape.Lz f p at) (short-enough i len _ l)

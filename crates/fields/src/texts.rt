@@ -1,6 +1,6 @@
 // Texts and bytes.
 ghost use mathlib.Core.Path.{_≡_};
-ghost use Prim.Native.Nat.{_+_, _-_, _*_, _/_, _≤_, _<_, min};
+ghost use Prim.Native.Nat.{_+_, _-_, _*_, _/_, _≤_, _<_};
 ghost use lib.ListN.{length};
 ghost use Rattle.bits.specs.Calls.{bits as bitCount};
 ghost use Rattle.fields.specs.Payload.{payloadOf};
@@ -16,22 +16,14 @@ use bits::Cursor;
 use bits::ReadSlice;
 use bits::ReadU64;
 use bits::Room;
+use bits::least;
 use descriptor::Encoding;
 use descriptor::FieldDescriptor;
 use descriptor::PgnBytes;
 use descriptor::PgnValue;
 
-// The largest length byte of a string.
-const LENGTH_MAX: usize = 223;
-
 // A StringFix over so many bytes may stop early where it is the last field.
 const FIXED_MAX: usize = 32;
-
-fn least(a: usize, b: usize) -> usize
-    ensures { λ r. ⌜ r ≡ min a b ⌝ }
-{
-    if a < b { a } else { b }
-}
 
 // Whether n whole bytes can be read at bit `at`.
 fn bytes_room(s: &[u8], at: usize, n: usize) -> Room
@@ -141,7 +133,7 @@ fn lau_text(s: &[u8], f: FieldDescriptor, i: usize, at: usize, len: usize) -> Fi
     requires { ⌜ at ≤ 524288 ⌝ }
     ensures { λ r. ⌜ r ≡ readOver (lauTaken (payloadOf (now (s .entry))) i at len) shape.Lau f (payloadOf (now (s .entry))) at ⌝ }
 {
-    if LENGTH_MAX < len {
+    if tables::PAYLOAD_MAX < len {
         return FieldRead::Refused(DecodeRefusal::InvalidDataLength { field: i });
     }
     if len < 2 {
@@ -190,7 +182,7 @@ fn lz_text(s: &[u8], f: FieldDescriptor, i: usize, at: usize, len: usize) -> Fie
     requires { ⌜ (at ≤ 524288) × (len ≡ payloadOf (now s) .bits at 8) ⌝ }
     ensures { λ r. ⌜ r ≡ readOver (lzTaken (payloadOf (now (s .entry))) i at len) shape.Lz f (payloadOf (now (s .entry))) at ⌝ }
 {
-    if LENGTH_MAX < len {
+    if tables::PAYLOAD_MAX < len {
         return FieldRead::Refused(DecodeRefusal::InvalidDataLength { field: i });
     }
     let room = text_room(s, at + 8, len);

@@ -5,7 +5,7 @@ use Prim.Native.Nat.{ℕ, _≤_}
 use native.Mathlib.Omega.{arith}
 use lib.ListN.{length}
 use Rattle.tables.specs.Table.{tableOf}
-use Rattle.tables.specs.Check.{checkOf}
+use Rattle.tables.specs.Check.{checkOf, payloadMax}
 use Rattle.tables.specs.declared.Checked.the-variants.{Accepted}
 use Rattle.messages.proofs.Accepted.{accepted129025, accepted129026, accepted129029, accepted130900}
 use Rattle.fields.specs.declared.DecodeRefusal.the-variants.{NoRoom}
@@ -27,6 +27,6 @@ accepted M129029 = accepted129029
 accepted M130900 = accepted130900
 
 -- at any place of the walk from `start` on
-pub never-full : (m : Message) (payload : List ℕ) → length payload ≤ 223 → (w : Walk) → Going (tableOf (wordsOf m)) (payloadOf payload) roomEnough w → (i : ℕ)
+pub never-full : (m : Message) (payload : List ℕ) → length payload ≤ payloadMax → (w : Walk) → Going (tableOf (wordsOf m)) (payloadOf payload) roomEnough w → (i : ℕ)
     → nextOf (tableOf (wordsOf m)) (payloadOf payload) roomEnough w .answer ≡ Refused (NoRoom i) → ⊥
 never-full m payload small w g i = enough-turn (tableOf (wordsOf m)) (accepted m) (payloadOf payload) small roomEnough (omega arith) w g i

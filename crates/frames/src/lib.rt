@@ -24,7 +24,6 @@ pub use crate::digest::empty_line;
 pub use crate::digest::feed;
 pub use crate::lookup::frame_of;
 pub use crate::lookup::message_of;
-pub use crate::walks::PAYLOAD_MAX;
 pub use crate::walks::is_last;
 pub use crate::walks::put_first;
 pub use crate::walks::put_more;

@@ -26,9 +26,6 @@ use reading::next_field;
 use reading::room_enough;
 use textio::put;
 
-// A payload has at most so many bytes.
-pub const PAYLOAD_MAX: usize = 223;
-
 // The room of one line, with some to spare.
 const LINE_MAX: usize = 1024;
 
@@ -72,7 +69,7 @@ fn put_too_long(received: usize, out: &mut [u8], at: usize) -> usize
     requires { ⌜ at + 1024 ≤ length (now out) ⌝ }
     ensures { λ r. ⌜ r ≤ at + 1024 ⌝ }
 {
-    if PAYLOAD_MAX < received {
+    if tables::PAYLOAD_MAX < received {
         let e = DecodeRefusal::WrongLength {
             length: ByteCount(received),
         };

@@ -14,7 +14,7 @@ use Rattle.bits.specs.Calls.{cursorAt, widthMax, writtenIn, writtenOf}
 use Rattle.bits.proofs.Rooms.{Fitting, fitting, room-fits}
 use Rattle.bits.proofs.Laws.{length-written}
 use Rattle.tables.specs.Table.{Table}
-use Rattle.tables.specs.Check.{checkOf}
+use Rattle.tables.specs.Check.{checkOf, payloadMax}
 use Rattle.tables.specs.declared.Checked.the-variants.{Accepted}
 use Rattle.walking.specs.Runs.{Run, ran, stopped}
 use Rattle.fields.specs.declared.DecodeRefusal.{DecodeRefusal}
@@ -119,7 +119,7 @@ two-runs t received padded room us v ws s d free x =
     let d′ : Decodes t received′ padded room vs s = record { ready = ready; run = k .decodes } in
     let f = t .field (v .field) in
     let fits = number-fits p (v .field) _ (f .width) (v .start .0) (v .bits .0) (shapeOf f) (free .strict) (free .number) (d3 .ruled us v ws refl) in
-    let short : length received ≤ 223 = readied t (length received) padded (d .ready) .payload in
+    let short : length received ≤ payloadMax = readied t (length received) padded (d .ready) .payload in
     let a = reads t received padded room vs s d ∙ k .were in
     let b = reads t received′ padded room vs s d′ ∙ k .are in
     record {
@@ -142,7 +142,7 @@ two-runs t received padded room us v ws s d free x =
 -- ## Room
 
 -- with room for 1,785 readings 9 is never given: a payload has at most 223 bytes, and `never-full` says why one more than its bits is enough
-never-by-run : (t : Table) → checkOf t ≡ Accepted → (p : Payload) → p .size ≤ 223 → (room : ℕ) → roomEnough ≤ room → (i n : ℕ) (w : Run Span Progress DecodeRefusal)
+never-by-run : (t : Table) → checkOf t ≡ Accepted → (p : Payload) → p .size ≤ payloadMax → (room : ℕ) → roomEnough ≤ room → (i n : ℕ) (w : Run Span Progress DecodeRefusal)
     → walkOf t p room ≡ w → endOf t p w ≡ decoded.Refused (NoRoom i) n → ⊥
 never-by-run t ok p small room enough i n (ran vs s) w e = let z : _≡_ {A = ℕ} 0 1 = cc in omega arith
 never-by-run t ok p small room enough i n (stopped vs f) w e =
@@ -159,6 +159,6 @@ module _ (t : Table) (received padded : List ℕ) (room : ℕ) (enough : roomEno
   enough-room h = full-by-prepared (preparedOf t (length received) (length padded)) refl h
 
 -- nor is it by a turn, at any place of the walk from `start` on
-pub enough-turn : (t : Table) → checkOf t ≡ Accepted → (p : Payload) → p .size ≤ 223 → (room : ℕ) → roomEnough ≤ room → (w : Walk) → Going t p room w → (i : ℕ)
+pub enough-turn : (t : Table) → checkOf t ≡ Accepted → (p : Payload) → p .size ≤ payloadMax → (room : ℕ) → roomEnough ≤ room → (w : Walk) → Going t p room w → (i : ℕ)
     → nextOf t p room w .answer ≡ answer.Refused (NoRoom i) → ⊥
 enough-turn t ok p small room enough w g i h = never-by-run t ok p small room enough i _ (walkOf t p room) refl (turned t p room ok w g .stops (NoRoom i) h)

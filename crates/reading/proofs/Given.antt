@@ -58,7 +58,7 @@ read-gives Lz d p at (taken.Took n) f g h = let z : _≡_ {A = ℕ} 0 1 = cc in 
 
 -- ## The walk
 
-module _ (t : Table) (ok : checkOf t ≡ checked.Accepted) (p : Payload) (small : p .size ≤ 223) (room : ℕ) where
+module _ (t : Table) (ok : checkOf t ≡ checked.Accepted) (p : Payload) (small : p .size ≤ payloadMax) (room : ℕ) where
   no-room : (b : Bool) (i : ℕ) (v : Span) (z : Progress) (f : DecodeRefusal) → check b (NoRoom i) (hit v z) ≡ miss f → Gives f
   unfolding check
   no-room true i v z f h = let k : _≡_ {A = ℕ} 0 1 = cc in absurd (omega arith)

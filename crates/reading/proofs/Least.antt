@@ -20,6 +20,7 @@ use Rattle.fields.specs.Payload.{Payload}
 use Rattle.fields.specs.Shapes.{shapeOf}
 use Rattle.fields.specs.Taken.{ifRoom, shortOf, roomAt, bytesRoom, textRoom, fixedBytes, lauTaken, closedBy, lzTaken, takenBy, takenOf}
 use Rattle.fields.specs.Content.{readOver, fieldReadOf}
+use Rattle.tables.specs.Check.{payloadMax}
 
 -- m bits or more, or a refusal of a field
 pub data Least (m : ℕ) : Taken → Type 0 where
@@ -56,7 +57,7 @@ module _ (p : Payload) (at i : ℕ) where
 
   lau-least : (len : ℕ) → Least 8 (lauTaken p i at len)
   lau-least len =
-      either (ltb 223 len) _ _ too-short
+      either (ltb payloadMax len) _ _ too-short
       (either (ltb len 2) _ _ (least (omega arith))
       (if-room (roomAt p (at + 8) 8) i _ (λ e. if-room (textRoom p (at + 16) (len - 2)) i _ (λ h. least (omega arith)))))
 
@@ -70,7 +71,7 @@ module _ (p : Payload) (at i : ℕ) where
 
   lz-least : (len : ℕ) → Least (8 + 8 * len) (lzTaken p i at len)
   lz-least len =
-      either (ltb 223 len) _ _ too-short
+      either (ltb payloadMax len) _ _ too-short
       (if-room (textRoom p (at + 8) len) i _ (λ h. least (closed-least (8 + 8 * len) (roomAt p (at + (8 + 8 * len)) 8) (p .bits (at + (8 + 8 * len)) 8))))
 
   pub least-taken : (sh : Shape) (early : Bool) (w : ℕ) → Least (leastOf sh p early w at) (takenBy sh p i early w at)

@@ -6,12 +6,10 @@ ghost use lib.ListN.{length, take, drop, replicate, getD};
 ghost use Rattle.tables.specs.Table.{tableOf};
 ghost use Rattle.reading.specs.Filling.{fills, pickedOf, preparedOf, runAfter};
 use crate::Prepared;
-use crate::groups::least;
 use bits::ByteCount;
+use bits::least;
 use fields::DecodeRefusal;
 use tables::Checked;
-
-const PAYLOAD_MAX: usize = 223;
 
 // Whether a payload of so many bytes is filled.
 pub fn is_filled(words: &[u64], received: usize) -> bool
@@ -53,12 +51,12 @@ fn fill(received: &[u8], padded: &mut [u8], n: usize)
 fn prepared(words: &[u64], received: usize, padded: usize) -> Prepared
     ensures { λ r. ⌜ r ≡ preparedOf (tableOf (now (words .entry))) received padded ⌝ }
 {
-    if PAYLOAD_MAX < received {
+    if tables::PAYLOAD_MAX < received {
         return Prepared::Refused(DecodeRefusal::WrongLength {
             length: ByteCount(received),
         });
     }
-    if padded == PAYLOAD_MAX {
+    if padded == tables::PAYLOAD_MAX {
         return match tables::check(words) {
             Checked::Accepted => Prepared::Ready,
             Checked::Refused { rule, index } => {

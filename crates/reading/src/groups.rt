@@ -1,29 +1,21 @@
 // Counters and the elements of a set.
 ghost use mathlib.Core.Path.{_≡_};
-ghost use Prim.Native.Nat.{_≤_, min};
 ghost use lib.ListN.{getD};
 ghost use Rattle.tables.specs.Table.{tableOf};
 ghost use Rattle.reading.specs.Groups.{noted as notedOf, notedBy, fitting as fittingOf, elementCount, groupCountOf};
 use crate::GroupCount;
 use bits::BitPos;
+use bits::least;
 use fields::DecodeRefusal;
 use fields::Raw;
 use walking::Element;
 
-const SET_MAX: usize = 4;
-
-pub(crate) fn least(a: usize, b: usize) -> usize
-    ensures { λ r. ⌜ r ≡ min a b ⌝ }
-{
-    if a < b { a } else { b }
-}
-
 // The counters once field i has been read as r.
-fn noted(words: &[u64], i: usize, r: u64, cs: [u64; 4]) -> [u64; 4]
+fn noted(words: &[u64], i: usize, r: u64, cs: [u64; tables::SET_MAX]) -> [u64; tables::SET_MAX]
     ensures { λ o. ⌜ o ≡ notedOf (tableOf (now (words .entry))) i r cs ⌝ }
 {
     let mut c = cs;
-    let m = least(tables::set_count(words), SET_MAX);
+    let m = least(tables::set_count(words), tables::SET_MAX);
     let mut k = 0;
     while k < m {
         let set = tables::set_at(words, k);
@@ -38,7 +30,13 @@ fn noted(words: &[u64], i: usize, r: u64, cs: [u64; 4]) -> [u64; 4]
 }
 
 // The counters once a field has been read: one in a set counts nothing, nor does one without a raw.
-pub fn noted_by(words: &[u64], e: Element, i: usize, raw: Raw, cs: [u64; 4]) -> [u64; 4]
+pub fn noted_by(
+    words: &[u64],
+    e: Element,
+    i: usize,
+    raw: Raw,
+    cs: [u64; tables::SET_MAX],
+) -> [u64; tables::SET_MAX]
     ensures { λ o. ⌜ o ≡ notedBy (tableOf (now (words .entry))) e i raw cs ⌝ }
 {
     match e {
@@ -51,10 +49,10 @@ pub fn noted_by(words: &[u64], e: Element, i: usize, raw: Raw, cs: [u64; 4]) -> 
 }
 
 // The counter of set k: there are none past the last.
-pub fn counter_at(cs: [u64; 4], k: usize) -> u64
+pub fn counter_at(cs: [u64; tables::SET_MAX], k: usize) -> u64
     ensures { λ r. ⌜ r ≡ getD cs k 0 ⌝ }
 {
-    if k < 4 {
+    if k < tables::SET_MAX {
         return cs[k];
     }
     0

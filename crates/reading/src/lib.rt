@@ -38,7 +38,7 @@ pub use crate::turns::start;
 
 // With room for so many readings no decode gives 9: `room_enough` holds it to the definition of which
 // proofs/Answered.antt shows that. It is here for the lengths of arrays.
-pub const ROOM_ENOUGH: usize = 1785;
+pub const ROOM_ENOUGH: usize = tables::PAYLOAD_MAX * 8 + 1;
 
 // A field met, skipped ones too: `bits` bits from `start` on.
 pub struct Span {
@@ -63,7 +63,7 @@ pub struct Reading {
 pub struct Progress {
     pub at: BitPos,
     pub made: usize,
-    pub counters: [u64; 4],
+    pub counters: [u64; tables::SET_MAX],
 }
 
 // A walk between two turns.

@@ -40,7 +40,7 @@ pub fn start() -> Walk
     let progress = Progress {
         at: BitPos(0),
         made: 0,
-        counters: [0; 4],
+        counters: [0; tables::SET_MAX],
     };
     Walk {
         spot: Spot::Field(0),

@@ -9,7 +9,7 @@ use borrow.Author.Tests.{lt-ltb, le-ltb, eq-eqb, ne-eqb}
 use Rattle.bits.specs.Bits.{pick}
 use Rattle.bits.specs.Calls.{bytes}
 use Rattle.tables.specs.Table.{Table}
-use Rattle.tables.specs.Check.{checkOf}
+use Rattle.tables.specs.Check.{checkOf, payloadMax}
 use Rattle.tables.specs.declared.Checked.the-variants.{Accepted}
 use Rattle.fields.specs.declared.DecodeRefusal.the-variants.{WrongLength}
 use Rattle.reading.specs.declared.Prepared.{Prepared}
@@ -20,21 +20,21 @@ use Rattle.records.specs.Pgn.{ofBuiltIn}
 
 module _ (t : Table) (received padded : ℕ) where
   abbrev later : Prepared
-  later = pick (eqb padded 223) (byCheck (checkOf t)) (Refused (WrongLength (bytes padded)))
+  later = pick (eqb padded payloadMax) (byCheck (checkOf t)) (Refused (WrongLength (bytes padded)))
 
   abbrev over : Prepared
   over = Refused (WrongLength (bytes received))
 
-  pub too-long : 223 < received → Refused (WrongLength (bytes received)) ≡ preparedOf t received padded
+  pub too-long : payloadMax < received → Refused (WrongLength (bytes received)) ≡ preparedOf t received padded
   too-long l = sym (ap (λ (b : Bool). pick b over later) (lt-ltb _ _ l))
 
-  fits : received ≤ 223 → later ≡ preparedOf t received padded
+  fits : received ≤ payloadMax → later ≡ preparedOf t received padded
   fits l = sym (ap (λ (b : Bool). pick b over later) (le-ltb _ _ l))
 
-  pub wrong-run : received ≤ 223 → (padded ≡ 223 → ⊥) → Refused (WrongLength (bytes padded)) ≡ preparedOf t received padded
+  pub wrong-run : received ≤ payloadMax → (padded ≡ payloadMax → ⊥) → Refused (WrongLength (bytes padded)) ≡ preparedOf t received padded
   wrong-run l n = sym (ap (λ (b : Bool). pick b (byCheck (checkOf t)) (Refused (WrongLength (bytes padded)))) (ne-eqb _ _ n)) ∙ fits l
 
-  pub ready : received ≤ 223 → padded ≡ 223 → checkOf t ≡ Accepted → Ready ≡ preparedOf t received padded
+  pub ready : received ≤ payloadMax → padded ≡ payloadMax → checkOf t ≡ Accepted → Ready ≡ preparedOf t received padded
   ready l e ok =
       sym (ap byCheck ok) ∙ sym (ap (λ (b : Bool). pick b (byCheck (checkOf t)) (Refused (WrongLength (bytes padded)))) (eq-eqb _ _ e)) ∙ fits l
 

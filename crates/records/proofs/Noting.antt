@@ -10,6 +10,7 @@ use borrow.Author.Tests.{ne-eqb}
 use Rattle.bits.specs.Bits.{pick}
 use Rattle.bits.proofs.Written.{below}
 use Rattle.tables.specs.Table.{Table}
+use Rattle.tables.specs.Check.{setMax}
 use Rattle.walking.specs.declared.Element.{Element}
 use Rattle.walking.specs.declared.Element.the-variants.{Outside, At}
 use Rattle.fields.specs.declared.Raw.{Raw}
@@ -68,7 +69,7 @@ module _ (t : Table) (i end : ℕ) where
     where
       by : (j : ℕ) → i ≤ j → j + 1 < r → (x : Raw) (cs : List ℕ) → notedBy t Outside j x cs ≡ cs
       by j a h raw.Absent cs = refl
-      by j a h (raw.Number y) cs = unnoted t j y cs (min (t .sets) 4) (λ k l. s .sets k (omega (arith, e, l)) j a h)
+      by j a h (raw.Number y) cs = unnoted t j y cs (min (t .sets) setMax) (λ k l. s .sets k (omega (arith, e, l)) j a h)
 
 -- ## Stretches one after another
 

@@ -13,14 +13,12 @@ use bits::ByteCount;
 use fields::DecodeRefusal;
 use reading::Decoded;
 
-const PAYLOAD_MAX: usize = 223;
-
 // By an accepted table that fills nothing.
 fn known(words: &[u64], received: &[u8], padded: &[u8], out: &mut [u8]) -> Decoded
     requires { ⌜ (checkOf (tableOf (now words)) ≡ checked.Accepted) × (tableOf (now words) .minimum ≡ 0) ⌝ }
     ensures { λ r. ⌜ (r ≡ decodedInto (tableOf (now (words .entry))) (now (received .entry)) (length (now (padded .entry))) (length (now (out .entry)))) × (now (out .exit) ≡ outAfter (tableOf (now (words .entry))) (now (received .entry)) (length (now (padded .entry))) (now (out .entry))) ⌝ }
 {
-    if PAYLOAD_MAX < received.len() {
+    if tables::PAYLOAD_MAX < received.len() {
         return Decoded::Refused {
             refusal: DecodeRefusal::WrongLength {
                 length: ByteCount(received.len()),
@@ -28,7 +26,7 @@ fn known(words: &[u64], received: &[u8], padded: &[u8], out: &mut [u8]) -> Decod
             count: 0,
         };
     }
-    if padded.len() == PAYLOAD_MAX {
+    if padded.len() == tables::PAYLOAD_MAX {
         return into::walked(words, received, out);
     }
     Decoded::Refused {

@@ -1,10 +1,11 @@
 // Which fields can be gone through in one stretch.
 ghost use mathlib.Core.Path.{_≡_};
-ghost use Prim.Native.Nat.{min, _≤_, _<_};
+ghost use Prim.Native.Nat.{_≤_, _<_};
 ghost use Rattle.tables.specs.Table.{tableOf};
 ghost use Rattle.walking.specs.declared.Element.the-variants as element;
 ghost use Rattle.walking.specs.Walk.{placeOf};
 ghost use Rattle.records.specs.Stretches.{Insides, Plains, Clear, UpTo, Quiet, isInside};
+use bits::least;
 use walking::Place;
 
 fn is_inside(words: &[u64], i: usize) -> bool
@@ -90,10 +91,4 @@ fn up_to(c: usize, i: usize, end: usize) -> usize
         }
     }
     end
-}
-
-fn least(a: usize, b: usize) -> usize
-    ensures { λ r. ⌜ r ≡ min a b ⌝ }
-{
-    if a < b { a } else { b }
 }

@@ -106,7 +106,7 @@ fn within_at(
     j: usize,
     at: usize,
     made: usize,
-    counters: [u64; 4],
+    counters: [u64; tables::SET_MAX],
 ) -> Walk
     ensures { λ r. ⌜ r ≡ walkAt (spot.Within k n e j) (progressAt at made counters) ⌝ }
 {
@@ -119,7 +119,7 @@ fn within_at(
     walk_at(spot, at, made, counters)
 }
 
-fn walk_at(spot: Spot, at: usize, made: usize, counters: [u64; 4]) -> Walk
+fn walk_at(spot: Spot, at: usize, made: usize, counters: [u64; tables::SET_MAX]) -> Walk
     ensures { λ r. ⌜ r ≡ walkAt spot (progressAt at made counters) ⌝ }
 {
     let progress = Progress {

@@ -16,6 +16,7 @@ mod pieces;
 ghost use mathlib.Core.Path.{_≡_};
 ghost use Prim.Native.Nat.{_≤_};
 ghost use lib.ListN.{length};
+ghost use Rattle.tables.specs.Check.{payloadMax};
 
 // Where the program stands between two steps: what is known of the line; which part of the input is
 // not taken yet; how many bytes of answers wait to be written. `is_open` is false once the input has
@@ -30,7 +31,7 @@ pub(crate) struct At {
 
 fn main() {
     let mut input = io::large_buffer();
-    let mut payload = [0u8; frames::PAYLOAD_MAX];
+    let mut payload = [0u8; tables::PAYLOAD_MAX];
     let mut out = io::large_buffer();
     run(&mut input, &mut payload, &mut out);
 }
@@ -38,7 +39,7 @@ fn main() {
 // A proved loop has to end, and nothing says that the input does. So the loop counts its turns down,
 // from a number that no run uses up.
 fn run(input: &mut [u8], payload: &mut [u8], out: &mut [u8])
-    requires { ⌜ (length (now input) ≡ 65536) × (length (now payload) ≡ 223) × (length (now out) ≡ 65536) ⌝ }
+    requires { ⌜ (length (now input) ≡ 65536) × (length (now payload) ≡ payloadMax) × (length (now out) ≡ 65536) ⌝ }
 {
     let mut turns = u64::MAX;
     let mut at = pieces::start();

@@ -2,12 +2,12 @@
 ghost use mathlib.Core.Path.{_≡_};
 ghost use Prim.Native.Nat.{_≤_};
 ghost use lib.ListN.{length};
+ghost use Rattle.tables.specs.Check.{payloadMax};
 ghost use Rattle.samopute.specs.Bounds.{Within};
 use crate::At;
 use frames::Frame;
 use frames::Line;
 use frames::Message;
-use frames::PAYLOAD_MAX;
 use libc::STDIN_FILENO;
 use libc::STDOUT_FILENO;
 
@@ -30,7 +30,7 @@ pub(crate) fn start() -> At
 // One step: takes what was read to the end of the line, or of what was read; or reads anew. A read may
 // wait for long, so the answers are written before it.
 pub(crate) fn step(input: &mut [u8], payload: &mut [u8], out: &mut [u8], at: At) -> At
-    requires { ⌜ (length (now input) ≡ 65536) × (length (now payload) ≡ 223) × (length (now out) ≡ 65536) ⌝ }
+    requires { ⌜ (length (now input) ≡ 65536) × (length (now payload) ≡ payloadMax) × (length (now out) ≡ 65536) ⌝ }
     requires { ⌜ Within at ⌝ }
     ensures { λ r. ⌜ Within r ⌝ }
 {
@@ -47,7 +47,7 @@ pub(crate) fn step(input: &mut [u8], payload: &mut [u8], out: &mut [u8], at: At)
 // Reads once. The input has ended where nothing came; where reading failed the line is cut short, and
 // is not answered.
 fn read(input: &mut [u8], payload: &[u8], out: &mut [u8], at: At) -> At
-    requires { ⌜ (length (now input) ≡ 65536) × (length (now payload) ≡ 223) × (length (now out) ≡ 65536) ⌝ }
+    requires { ⌜ (length (now input) ≡ 65536) × (length (now payload) ≡ payloadMax) × (length (now out) ≡ 65536) ⌝ }
     requires { ⌜ Within at ⌝ }
     ensures { λ r. ⌜ Within r ⌝ }
 {
@@ -69,7 +69,7 @@ fn read(input: &mut [u8], payload: &[u8], out: &mut [u8], at: At) -> At
 
 // The input has ended: a line with no newline counts if it is not empty.
 fn last(payload: &[u8], out: &mut [u8], at: At) -> At
-    requires { ⌜ (length (now payload) ≡ 223) × (length (now out) ≡ 65536) ⌝ }
+    requires { ⌜ (length (now payload) ≡ payloadMax) × (length (now out) ≡ 65536) ⌝ }
     requires { ⌜ Within at ⌝ }
     ensures { λ r. ⌜ Within r ⌝ }
 {
@@ -89,7 +89,7 @@ fn is_empty(line: Line) -> bool {
 // Takes bytes into the line. Where the piece does not end with it a newline stands there, and the line
 // is answered.
 fn take(input: &[u8], payload: &mut [u8], out: &mut [u8], at: At) -> At
-    requires { ⌜ (length (now input) ≡ 65536) × (length (now payload) ≡ 223) × (length (now out) ≡ 65536) ⌝ }
+    requires { ⌜ (length (now input) ≡ 65536) × (length (now payload) ≡ payloadMax) × (length (now out) ≡ 65536) ⌝ }
     requires { ⌜ Within at ⌝ }
     ensures { λ r. ⌜ Within r ⌝ }
 {
@@ -111,7 +111,7 @@ fn take(input: &[u8], payload: &mut [u8], out: &mut [u8], at: At) -> At
 
 // Prints the answer to the line, which is whole, and begins the next.
 fn answer(payload: &[u8], out: &mut [u8], at: At) -> At
-    requires { ⌜ (length (now payload) ≡ 223) × (length (now out) ≡ 65536) ⌝ }
+    requires { ⌜ (length (now payload) ≡ payloadMax) × (length (now out) ≡ 65536) ⌝ }
     requires { ⌜ Within at ⌝ }
     ensures { λ r. ⌜ Within r ⌝ }
 {
@@ -127,7 +127,7 @@ fn answer(payload: &[u8], out: &mut [u8], at: At) -> At
             pgn: _,
             received,
         } => {
-            if received <= PAYLOAD_MAX {
+            if received <= tables::PAYLOAD_MAX {
                 return print(message, &payload[0..received], out, to, next);
             }
             written(out, to, next)

@@ -19,7 +19,7 @@ use Rattle.tables.specs.declared.Checked.{Checked}
 use Rattle.tables.specs.declared.Checked.the-variants.{Accepted}
 use Rattle.tables.specs.Table.{Table}
 use Rattle.tables.specs.Rules.{classOf, known, lastOnly, widthFits, wholeBytes, within, inSets, declaredBits, endBefore, counts, scaled}
-use Rattle.tables.specs.Check.{keeps, reach, foundFrom, settle, checkOf}
+use Rattle.tables.specs.Check.{keeps, reach, foundFrom, settle, checkOf, payloadMax, fieldMax, setMax}
 
 -- ---- every rule, at every index
 
@@ -87,20 +87,20 @@ between lo hi n h = let b = both (leb lo n) (leb n hi) h in (leb-true lo n (b .0
 -- rule a
 pub record Sizes (t : Table) : Type 0 where
   pub some : 1 ≤ t .count
-  pub fields : t .count ≤ 64
-  pub sets : t .sets ≤ 4
-  pub length : t .length ≤ 223
-  pub minimum : t .minimum ≤ 223
+  pub fields : t .count ≤ fieldMax
+  pub sets : t .sets ≤ setMax
+  pub length : t .length ≤ payloadMax
+  pub minimum : t .minimum ≤ payloadMax
   -- "minimum not above length", where a length is given: 0 is none
   pub ordered : 1 ≤ t .length → t .minimum ≤ t .length
 
 pub sizes : (t : Table) → checkOf t ≡ Accepted → Sizes t
 sizes t ok =
-    let a = both (within 1 64 (t .count)) _ (kept t ok A 0 (omega arith)) in
-    let n = between 1 64 (t .count) (a .0) in
-    let s = both (leb (t .sets) 4) _ (a .1) in
-    let l = both (leb (t .length) 223) _ (s .1) in
-    let m = both (leb (t .minimum) 223) _ (l .1) in
+    let a = both (within 1 fieldMax (t .count)) _ (kept t ok A 0 (omega arith)) in
+    let n = between 1 fieldMax (t .count) (a .0) in
+    let s = both (leb (t .sets) setMax) _ (a .1) in
+    let l = both (leb (t .length) payloadMax) _ (s .1) in
+    let m = both (leb (t .minimum) payloadMax) _ (l .1) in
     record {
       some = n .0;
       fields = n .1;

@@ -63,7 +63,7 @@ pub(crate) fn is_known(c: KindClass) -> bool
     }
 }
 
-pub(crate) fn is_within(lo: u32, hi: u32, n: u32) -> bool
+pub(crate) fn is_within(lo: usize, hi: usize, n: usize) -> bool
     ensures { λ r. ⌜ r ≡ within lo hi n ⌝ }
 {
     if lo <= n { n <= hi } else { false }
@@ -73,7 +73,7 @@ fn whole_bytes(w: u32) -> bool
     ensures { λ r. ⌜ r ≡ wholeBytes w ⌝ }
 {
     if w % 8 == 0 {
-        return is_within(8, 1784, w);
+        return is_within(8, 1784, w as usize);
     }
     false
 }
@@ -83,7 +83,7 @@ fn raw_width(w: u32) -> bool
     ensures { λ r. ⌜ r ≡ widthFits KindClass.Raw w ⌝ }
 {
     if w % 8 == 0 {
-        return is_within(8, 1784, w);
+        return is_within(8, 1784, w as usize);
     }
     w <= 63
 }
@@ -92,19 +92,20 @@ fn raw_width(w: u32) -> bool
 pub(crate) fn width_fits(c: KindClass, w: u32) -> bool
     ensures { λ r. ⌜ r ≡ widthFits c w ⌝ }
 {
+    let n = w as usize;
     match c {
-        KindClass::Numeric => is_within(1, 64, w),
-        KindClass::Counted => is_within(1, 64, w),
-        KindClass::Lasting => is_within(1, 64, w),
-        KindClass::Clock => is_within(1, 64, w),
-        KindClass::Bits => is_within(1, 64, w),
+        KindClass::Numeric => is_within(1, 64, n),
+        KindClass::Counted => is_within(1, 64, n),
+        KindClass::Lasting => is_within(1, 64, n),
+        KindClass::Clock => is_within(1, 64, n),
+        KindClass::Bits => is_within(1, 64, n),
         KindClass::Real => w == 32,
-        KindClass::Gap => is_within(1, 64, w),
+        KindClass::Gap => is_within(1, 64, n),
         KindClass::Fixed => whole_bytes(w),
         KindClass::Lz => w == 0,
         KindClass::Lau => w == 0,
         KindClass::Raw => raw_width(w),
-        KindClass::Unknown => is_within(1, 64, w),
+        KindClass::Unknown => is_within(1, 64, n),
     }
 }
 

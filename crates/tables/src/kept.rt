@@ -16,7 +16,7 @@ use descriptor::Resolution;
 fn numeric_is_kept(width: u32, resolution: Resolution) -> bool
     ensures { λ r. ⌜ (r ≡ true → (widthFits KindClass.Numeric width ≡ true) × (resolutionFits KindClass.Numeric resolution ≡ true)) ⌝ }
 {
-    if classes::is_within(1, 64, width) {
+    if classes::is_within(1, 64, width as usize) {
         return classes::scale_is_kept(resolution);
     }
     false

@@ -25,6 +25,14 @@ pub use crate::words::set_at;
 pub use crate::words::set_count;
 pub use crate::words::simple_width;
 
+// The limits of rule a, for all code: the fields of a table, its repeating sets, the bytes of a payload.
+// specs/Check.antt has them for all definitions, and the proofs hold these to those.
+pub const FIELD_MAX: usize = 64;
+
+pub const SET_MAX: usize = 4;
+
+pub const PAYLOAD_MAX: usize = 223;
+
 // A run of fields that is repeated: `size` fields from `start` on, as often as the field `counter`
 // says, at most `maximum` times.
 pub struct RepeatingFieldSet {

@@ -6,7 +6,10 @@ ghost use lib.Dec.{leb, eqb};
 ghost use Rattle.tables.specs.Table.{tableOf};
 ghost use Rattle.tables.specs.Rules.{within, placeFits, setFits, counterFits, counterFieldFits, lastOnly};
 ghost use Rattle.tables.specs.Check.{keeps, reach, sizesFit, lengthFits, fieldMax, setMax};
+use crate::FIELD_MAX;
 use crate::KindClass;
+use crate::PAYLOAD_MAX;
+use crate::SET_MAX;
 use crate::TableRule;
 use crate::classes;
 use crate::sets;
@@ -16,18 +19,6 @@ use crate::words::length_of;
 use crate::words::minimum_of;
 use crate::words::set_at;
 use crate::words::set_count;
-
-const FIELD_MAX: usize = 64;
-
-const SET_MAX: usize = 4;
-
-const PAYLOAD_MAX: usize = 223;
-
-fn is_between(lo: usize, hi: usize, n: usize) -> bool
-    ensures { λ r. ⌜ r ≡ within lo hi n ⌝ }
-{
-    if lo <= n { n <= hi } else { false }
-}
 
 // a: a length and a minimum, 0 where they are not given.
 fn lengths_fit(length: usize, minimum: usize) -> bool
@@ -46,7 +37,7 @@ fn lengths_fit(length: usize, minimum: usize) -> bool
 pub(crate) fn sizes_fit(words: &[u64]) -> bool
     ensures { λ r. ⌜ r ≡ sizesFit (tableOf (now (words .entry))) ⌝ }
 {
-    if is_between(1, FIELD_MAX, field_count(words)) {
+    if classes::is_within(1, FIELD_MAX, field_count(words)) {
         if set_count(words) <= SET_MAX {
             return lengths_fit(length_of(words), minimum_of(words));
         }
@@ -110,7 +101,7 @@ pub(crate) fn set_fits(words: &[u64], k: usize) -> bool
     if size < 1 {
         return false;
     }
-    is_between(1, 255, maximum)
+    classes::is_within(1, 255, maximum)
 }
 
 // h, of the counter's own field
@@ -127,7 +118,8 @@ fn counter_field_fits(words: &[u64], i: usize) -> bool
         if classes::is_scaled(resolution) {
             return false;
         }
-        return classes::is_within(1, 32, f.width);
+        let width = f.width as usize;
+        return classes::is_within(1, 32, width);
     }
     false
 }

@@ -112,7 +112,7 @@ shape-given shape.Lz f i v lent size at k h =
     bytes-given v i _
     (λ b. bare-given b i lent size at (b .encoding) _ (text-given b i lent size at (ltb textMax (b .len .0)) (not (eqb (b .len .0) 0)) 8 (16 + 8 * b .len .0) Counted))
 
-module _ (t : Table) (ok : checkOf t ≡ Accepted) (i : ℕ) (l : i < t .count) (size : ℕ) (small : size ≤ 223) (at : ℕ) where
+module _ (t : Table) (ok : checkOf t ≡ Accepted) (i : ℕ) (l : i < t .count) (size : ℕ) (small : size ≤ payloadMax) (at : ℕ) where
   pub weighed-given : (v : PgnValue) (lent : ℕ) → Given (weighedOf (t .field i) i v lent size at)
   weighed-given v lent =
       either (ltb payloadMax size) _ _ refl (shape-given (shapeOf (t .field i)) (t .field i) i v lent size at (holds-number t ok i l) (λ s. bits-fair t ok i l s size small at))

@@ -1,36 +1,23 @@
 // Texts and bytes. Sums are not made where they could pass the largest number: a difference is asked
 // instead.
 ghost use mathlib.Core.Path.{_≡_};
-ghost use Prim.Native.Nat.{_+_, _-_, _*_, _≤_, min};
-ghost use Rattle.bits.specs.Calls.{saturated};
+ghost use Prim.Native.Nat.{_+_, _-_, _*_, _≤_};
 ghost use mathlib.Core.Bool.{not};
 ghost use lib.Dec.{eqb, ltb};
+ghost use Rattle.tables.specs.Check.{payloadMax};
 ghost use Rattle.weighing.specs.Weigh.{ifRoom, ifAligned, textBy, fixedOf, wholeOf, lzOf, lauBy, byBytes, unencoded as unencodedBy};
 use crate::EncodeRefusal;
 use crate::Lead;
 use crate::Weighed;
 use bits::BitPos;
 use bits::BitRefusal;
+use bits::least;
+use bits::sum;
 use descriptor::Encoding;
 use descriptor::PgnBytes;
 use descriptor::PgnValue;
 
 const TEXT_MAX: usize = 221;
-
-const MOST: usize = 0xffff_ffff_ffff_ffff;
-
-fn least(a: usize, b: usize) -> usize
-    ensures { λ r. ⌜ r ≡ min a b ⌝ }
-{
-    if a < b { a } else { b }
-}
-
-// a + b, saturating.
-fn sum(a: usize, b: usize) -> usize
-    ensures { λ r. ⌜ r ≡ saturated (a + b) ⌝ }
-{
-    if a <= MOST - b { a + b } else { MOST }
-}
 
 // Whether a text reaches past the lent one.
 fn is_past(b: PgnBytes, lent: usize) -> bool
@@ -46,7 +33,7 @@ fn is_past(b: PgnBytes, lent: usize) -> bool
 
 // 2, which counts the bits of the whole field; else what follows.
 fn if_room(i: usize, size: usize, at: usize, n: usize, later: Weighed) -> Weighed
-    requires { ⌜ size ≤ 223 ⌝ }
+    requires { ⌜ size ≤ payloadMax ⌝ }
     ensures { λ r. ⌜ r ≡ ifRoom i size at n later ⌝ }
 {
     let left = room_left(size, at);
@@ -64,7 +51,7 @@ fn if_room(i: usize, size: usize, at: usize, n: usize, later: Weighed) -> Weighe
 
 // The bits from `at` on.
 fn room_left(size: usize, at: usize) -> usize
-    requires { ⌜ size ≤ 223 ⌝ }
+    requires { ⌜ size ≤ payloadMax ⌝ }
     ensures { λ r. ⌜ r ≡ size * 8 - at ⌝ }
 {
     let end = size * 8;
@@ -73,7 +60,7 @@ fn room_left(size: usize, at: usize) -> usize
 
 // Whether n bits from `at` on lie in it.
 fn fits(size: usize, at: usize, n: usize) -> bool
-    requires { ⌜ size ≤ 223 ⌝ }
+    requires { ⌜ size ≤ payloadMax ⌝ }
     ensures { λ r. ⌜ r ≡ not (ltb (size * 8) (at + n)) ⌝ }
 {
     let end = size * 8;
@@ -112,7 +99,7 @@ fn text(
     n: usize,
     lead: Lead,
 ) -> Weighed
-    requires { ⌜ size ≤ 223 ⌝ }
+    requires { ⌜ size ≤ payloadMax ⌝ }
     ensures { λ r. ⌜ r ≡ textBy b i lent size at over aligned put n lead ⌝ }
 {
     if over {
@@ -151,7 +138,7 @@ pub(crate) fn fixed(
     at: usize,
     width: u32,
 ) -> Weighed
-    requires { ⌜ size ≤ 223 ⌝ }
+    requires { ⌜ size ≤ payloadMax ⌝ }
     ensures { λ r. ⌜ r ≡ byBytes value i (λ b. fixedOf b i lent size at width) ⌝ }
 {
     let PgnValue::Bytes(b) = value else {
@@ -183,7 +170,7 @@ pub(crate) fn whole(
     at: usize,
     width: u32,
 ) -> Weighed
-    requires { ⌜ size ≤ 223 ⌝ }
+    requires { ⌜ size ≤ payloadMax ⌝ }
     ensures { λ r. ⌜ r ≡ byBytes value i (λ b. wholeOf b i lent size at width) ⌝ }
 {
     let PgnValue::Bytes(b) = value else {
@@ -207,7 +194,7 @@ fn is_unlike(n: usize, w: usize) -> bool
 }
 
 pub(crate) fn lz(value: PgnValue, i: usize, lent: usize, size: usize, at: usize) -> Weighed
-    requires { ⌜ size ≤ 223 ⌝ }
+    requires { ⌜ size ≤ payloadMax ⌝ }
     ensures { λ r. ⌜ r ≡ byBytes value i (λ b. lzOf b i lent size at) ⌝ }
 {
     let PgnValue::Bytes(b) = value else {
@@ -232,7 +219,7 @@ pub(crate) fn lz(value: PgnValue, i: usize, lent: usize, size: usize, at: usize)
 }
 
 pub(crate) fn lau(value: PgnValue, i: usize, lent: usize, size: usize, at: usize) -> Weighed
-    requires { ⌜ size ≤ 223 ⌝ }
+    requires { ⌜ size ≤ payloadMax ⌝ }
     ensures { λ r. ⌜ r ≡ byBytes value i (λ b. lauBy (b .encoding) b i lent size at) ⌝ }
 {
     let PgnValue::Bytes(b) = value else {

@@ -14,8 +14,6 @@ use descriptor::PgnValue;
 use fields::Shape;
 use numbers::RawOf;
 
-const PAYLOAD_MAX: usize = 223;
-
 // A number.
 fn number(f: FieldDescriptor, i: usize, value: PgnValue, size: usize, at: usize) -> Weighed
     ensures { λ r. ⌜ r ≡ numberBy (rawOf f value) i size at (f .width) ⌝ }
@@ -80,7 +78,7 @@ pub fn weigh_field(
 ) -> Weighed
     ensures { λ r. ⌜ r ≡ weighedOf f i value lent size (at .0) ⌝ }
 {
-    if PAYLOAD_MAX < size {
+    if tables::PAYLOAD_MAX < size {
         return Weighed::Refused(EncodeRefusal::WrongLength {
             length: ByteCount(size),
         });

@@ -21,6 +21,7 @@ use Rattle.numbers.specs.Conversions.{rawOf}
 use Rattle.numbers.specs.Scaling.{scaleOf}
 use Rattle.numbers.specs.declared.RawOf.the-variants as rawed
 use Rattle.tables.specs.Table.{Table}
+use Rattle.tables.specs.Check.{payloadMax}
 use Rattle.walking.specs.declared.Element.{Element}
 use Rattle.fields.specs.declared.FieldRead.{FieldRead}
 use Rattle.fields.specs.declared.FieldRead.the-variants as read
@@ -61,7 +62,7 @@ pub data ReadsAs (f : FieldDescriptor) (x : FieldRead) : Weighed → Type 0 wher
 
 -- `G` is what is known of a value that is offered: its raw has no bit past the field's width, its encoding byte is a byte
 module _ (G : PgnValue → Type 0) (byte-fits : (b : PgnBytes) (x : ℕ) → G (Bytes b) → b .encoding ≡ encoding.Byte x → x < 256)
-    (p : Payload) (small : p .size ≤ 223) (lent : List ℕ) (bytes : AllBytes lent) where
+    (p : Payload) (small : p .size ≤ payloadMax) (lent : List ℕ) (bytes : AllBytes lent) where
   module _ (f : FieldDescriptor) (fits : (v : PgnValue) (r : ℕ) → G v → rawOf f v ≡ rawed.Raw r → f .width ≤ 64 → r < 2 ^ f .width) (e : Element) (i at : ℕ) where
     abbrev M : Shape → Weighed → Type 0
     M = Meant G f (length lent) at
@@ -180,7 +181,7 @@ module _ (G : PgnValue → Type 0) (byte-fits : (b : PgnBytes) (x : ℕ) → G (
 
 module _ (G : PgnValue → Type 0) (byte-fits : (b : PgnBytes) (x : ℕ) → G (Bytes b) → b .encoding ≡ encoding.Byte x → x < 256)
     (t : Table) (raw-fits : (i : ℕ) → i < t .count → (v : PgnValue) (r : ℕ) → G v → rawOf (t .field i) v ≡ rawed.Raw r → t .field i .width ≤ 64 → r < 2 ^ t .field i .width)
-    (p : Payload) (small : p .size ≤ 223) (lent : List ℕ) (bytes : AllBytes lent) (size : ℕ) where
+    (p : Payload) (small : p .size ≤ payloadMax) (lent : List ℕ) (bytes : AllBytes lent) (size : ℕ) where
   -- what came of an offer at field i, and is held
   module _ (i : ℕ) (l : i < t .count) (e : Element) (at : ℕ) (o : Offer) (known : Offers G o) (w : Weighed)
       (says : w ≡ contentOf o (t .field i) i (length lent) size at) (held : Holds p lent (markAt i e at w)) where

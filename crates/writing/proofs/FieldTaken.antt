@@ -14,6 +14,7 @@ use Rattle.fields.specs.declared.Taken.{Taken}
 use Rattle.fields.specs.declared.Taken.the-variants.{Took}
 use Rattle.fields.specs.Payload.{Payload, bitsLeft}
 use Rattle.fields.specs.Taken.{ifRoom, shortOf, ifLength, roomAt, bytesRoom, textRoom, fixedBytes, closedAt, takenBy}
+use Rattle.tables.specs.Check.{payloadMax}
 
 -- what follows a test that says nothing against it
 room-if : (r : Room) (i : ℕ) (later : Taken) → r ≡ room.Fits → ifRoom r i later ≡ later
@@ -23,10 +24,10 @@ room-short : (strict : Bool) (i : ℕ) (r : Room) (later : Taken) → r ≡ room
 room-short true i r later h = ap (λ (x : Room). shortOf true i x later) h
 room-short false i r later h = ap (λ (x : Room). shortOf false i x later) h
 
-length-if : (i len : ℕ) (later : Taken) → len ≤ 223 → ifLength i len later ≡ later
-length-if i len later l = rw (le-ltb 223 len l)
+length-if : (i len : ℕ) (later : Taken) → len ≤ payloadMax → ifLength i len later ≡ later
+length-if i len later l = rw (le-ltb payloadMax len l)
 
-module _ (p : Payload) (small : p .size ≤ 223) where
+module _ (p : Payload) (small : p .size ≤ payloadMax) where
   bits-room : (at n : ℕ) → 0 < n → n ≤ 64 → at + n ≤ p .size * 8 → roomAt p at n ≡ room.Fits
   bits-room at n l m k = room-fits (p .size) at n 64 (record { short = omega (arith, small); some = l; narrow = m; inside = k })
 

@@ -46,7 +46,7 @@ settled-gives t i e s (weighed.Refused x) f g h = let k : x ≡ f = cc in subst 
 
 -- ## The walk
 
-module _ (t : Table) (ok : checkOf t ≡ checked.Accepted) (size : ℕ) (small : size ≤ 223) (offered : ℕ → Offer) (lent : ℕ) where
+module _ (t : Table) (ok : checkOf t ≡ checked.Accepted) (size : ℕ) (small : size ≤ payloadMax) (offered : ℕ → Offer) (lent : ℕ) where
   offered-given : (o : Offer) (i : ℕ) → i < t .count → (at : ℕ) → Given (offeredOf o (t .field i) i lent size at)
   offered-given Nothing i l at = refl
   offered-given NoKind i l at = refl
@@ -82,7 +82,7 @@ module _ (t : Table) (vs : Values) (lent size : ℕ) (f : EncodeRefusal) where
   by-count true s e = let k : ValueCount (t .count) ≡ f = cc in subst Gives k refl
   by-count false s e = let k : _≡_ {A = ℕ} 0 1 = cc in absurd (omega arith)
 
-  by-run : checkOf t ≡ checked.Accepted → size ≤ 223 → (w : Run Mark Pen EncodeRefusal) → writesOf t (vs .offered) lent size ≡ w
+  by-run : checkOf t ≡ checked.Accepted → size ≤ payloadMax → (w : Run Mark Pen EncodeRefusal) → writesOf t (vs .offered) lent size ≡ w
       → endOf t (vs .count) w ≡ encoded.Refused f → Gives f
   by-run ok small (ran ms s) q e = by-count (ltb (s .used) (vs .count)) s e
   by-run ok small (stopped ms x) q e = let k : x ≡ f = cc in walk-gives t ok size small (vs .offered) lent ms f (q ∙ ap (stopped ms) k)

@@ -15,7 +15,7 @@ use Rattle.descriptor.specs.declared.FieldKind.the-variants as kind
 use Rattle.descriptor.specs.declared.PgnValue.{PgnValue}
 use Rattle.tables.specs.Table.{Table}
 use Rattle.tables.specs.Rules.{classOf, within, widthFits, declaredBits, groupBits}
-use Rattle.tables.specs.Check.{checkOf}
+use Rattle.tables.specs.Check.{checkOf, payloadMax}
 use Rattle.tables.specs.declared.Checked.the-variants.{Accepted}
 use Rattle.tables.proofs.Accepted.{placed, widths}
 use Rattle.walking.specs.declared.Element.{Element}
@@ -193,7 +193,7 @@ module _ (t : Table) (offered : ℕ → Offer) (lent size : ℕ) where
           record { least = omega (arith, a .least, suc-mul e (groupBits t k)); inside = a .inside }) s ms z h
 
       -- so that reading finds as many: those that lie in the payload fit into what is left of it
-      pub count-back : p .size ≤ 223 → (k : ℕ) → k < t .sets → (s : Pen) (ms : List Mark) (z : Pen)
+      pub count-back : p .size ≤ payloadMax → (k : ℕ) → k < t .sets → (s : Pen) (ms : List Mark) (z : Pen)
           → times (countOf t k s) 0 (elementAt t (oneOf t offered lent size) (countOf t) tooMany k) s ≡ ran ms z → All (Holds p text) ms → s .at .0 ≤ p .size * 8
           → elementCount t k (getD (s .counters) k 0) (bitsLeft p (s .at .0)) ≡ countOf t k s
       count-back small k l s ms z h g u =

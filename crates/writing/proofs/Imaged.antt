@@ -9,7 +9,7 @@ use borrow.Author.Tests.{le-ltb}
 use Rattle.bits.specs.Bits.{bit, bitAt, bitsAt}
 use Rattle.bits.proofs.Laws.{run-local}
 use Rattle.tables.specs.Table.{Table}
-use Rattle.tables.specs.Check.{checkOf}
+use Rattle.tables.specs.Check.{checkOf, payloadMax}
 use Rattle.tables.specs.declared.Checked.the-variants.{Accepted}
 use Rattle.walking.specs.declared.Element.{Element}
 use Rattle.walking.specs.Runs.{Run, ran, stopped}
@@ -103,16 +103,16 @@ pub record Imaged (t : Table) (lent : List ℕ) (size : ℕ) (ms : List Mark) (s
   pub ends : s .at .0 ≤ seenOf t lent size ms s .size * 8
   pub used : bytesUsed s ≤ size
   pub long : length (take (bytesUsed s) (imageOf size ms lent)) ≡ bytesUsed s
-  pub short : checkOf t ≡ Accepted → seenOf t lent size ms s .size ≤ 223
+  pub short : checkOf t ≡ Accepted → seenOf t lent size ms s .size ≤ payloadMax
 
 -- a payload of 223 bytes at most is so once it is filled
-pub working-short : (t : Table) → checkOf t ≡ Accepted → (received : List ℕ) → length received ≤ 223 → length (workingOf t received) ≤ 223
-working-short t ok received l = working-le t received run (rw (le-ltb 223 (length received) l, ok))
+pub working-short : (t : Table) → checkOf t ≡ Accepted → (received : List ℕ) → length received ≤ payloadMax → length (workingOf t received) ≤ payloadMax
+working-short t ok received l = working-le t received run (rw (le-ltb payloadMax (length received) l, ok))
   where
     run : List ℕ
-    run = replicate 223 0
+    run = replicate payloadMax 0
 
-pub holds-all : (t : Table) (offered : ℕ → Offer) (lent : List ℕ) (size : ℕ) → size ≤ 223 → (ms : List Mark) (s : Pen)
+pub holds-all : (t : Table) (offered : ℕ → Offer) (lent : List ℕ) (size : ℕ) → size ≤ payloadMax → (ms : List Mark) (s : Pen)
     → writesOf t offered (length lent) size ≡ ran ms s → Imaged t lent size ms s
 holds-all t offered lent size small ms s e =
     let c = writes-chained t offered lent size ms s e in

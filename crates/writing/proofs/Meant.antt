@@ -34,6 +34,7 @@ use Rattle.weighing.specs.declared.Lead.the-variants.{Bare, Counted, Encoded, E
 use Rattle.weighing.specs.declared.Weighed.{Weighed}
 use Rattle.weighing.specs.declared.Weighed.the-variants.{Number, Gap, Text, Refused}
 use Rattle.weighing.specs.Weigh.{atField, ifRoom, ifAligned, numberBy, gapOf, textBy, unencoded, fixedOf, wholeOf, lzOf, lauBy, byBytes, weighedBy}
+use Rattle.tables.specs.Check.{payloadMax}
 use Rattle.writing.specs.Encode.{offeredOf, contentOf}
 use Rattle.writing.specs.ReadBack.{Offers}
 
@@ -149,7 +150,7 @@ module _ (G : PgnValue → Type 0) (f : FieldDescriptor) (lent at : ℕ) where
     offered-meant : (o : Offer) → Offers G o → Meant (shapeOf f) (offeredOf o f i lent size at)
     offered-meant Nothing k = refused
     offered-meant NoKind k = refused
-    offered-meant (Value v) k = picked (shapeOf f) (ltb 223 size) (Refused (WrongLength (bytes size))) _ (λ _. refused) (λ _. by-shape (shapeOf f) v k)
+    offered-meant (Value v) k = picked (shapeOf f) (ltb payloadMax size) (Refused (WrongLength (bytes size))) _ (λ _. refused) (λ _. by-shape (shapeOf f) v k)
 
     gapped : (sh : Shape) (w : Weighed) → Meant sh w → Meant sh (pick (isGap sh) (gapOf f i size at) w)
     gapped (shape.Number strict) w h = h

@@ -10,10 +10,11 @@ use Rattle.bits.specs.Calls.{cursorAt, writtenIn, writtenOf}
 use Rattle.bits.specs.declared.Room.{Room}
 use Rattle.bits.proofs.Rooms.{room-fits}
 use Rattle.bits.proofs.Laws.{length-written}
+use Rattle.tables.specs.Check.{payloadMax}
 use Rattle.writing.specs.Ink.{poured}
 
 -- a byte that lies in the buffer is written
-pub byte-in : (s : List ℕ) (at x : ℕ) → length s ≤ 223 → at + 8 ≤ length s * 8 → writtenOf s (cursorAt at) 8 8 x ≡ written s at 8 x
+pub byte-in : (s : List ℕ) (at x : ℕ) → length s ≤ payloadMax → at + 8 ≤ length s * 8 → writtenOf s (cursorAt at) 8 8 x ≡ written s at 8 x
 byte-in s at x l m =
     ap (λ (r : Room). writtenIn r s (cursorAt at) 8 x)
     (room-fits (length s) at 8 8 (record { short = omega (arith, l); some = omega arith; narrow = omega arith; inside = omega (arith, m) }))

@@ -31,10 +31,11 @@ use Rattle.weighing.specs.declared.Weighed.{Weighed}
 use Rattle.weighing.specs.declared.Weighed.the-variants.{Number, Gap, Text, Refused}
 use Rattle.weighing.specs.declared.EncodeRefusal.the-variants.{BitWriteError, TextTooLong}
 use Rattle.weighing.specs.Weigh.{ifRoom, ifAligned, atField, numberBy, gapOf, textBy, unencoded, lauBy, byBytes, weighedBy, weighedOf}
+use Rattle.tables.specs.Check.{payloadMax}
 use Rattle.writing.specs.Ink.{Whole, Puttable}
 
 -- a number that lies in the buffer is written
-pub number-in : (s : List ℕ) (at n v : ℕ) → length s ≤ 223 → 0 < n → n ≤ 64 → at + n ≤ length s * 8 → writtenOf s (cursorAt at) n 64 v ≡ written s at n v
+pub number-in : (s : List ℕ) (at n v : ℕ) → length s ≤ payloadMax → 0 < n → n ≤ 64 → at + n ≤ length s * 8 → writtenOf s (cursorAt at) n 64 v ≡ written s at n v
 number-in s at n v l p q m =
     ap (λ (r : Room). writtenIn r s (cursorAt at) n v) (room-fits (length s) at n 64 (record { short = omega (arith, l); some = p; narrow = q; inside = m }))
 
@@ -57,7 +58,7 @@ module _ (size at lent : ℕ) where
   or-false true b h = (h, cc)
   or-false false b h = (refl, h)
 
-  module _ (small : size ≤ 223) where
+  module _ (small : size ≤ payloadMax) where
     number-puts : (r : RawOf) (i w : ℕ) → P (numberBy r i size at w)
     number-puts (raw.Raw x) i w = at-room (roomOf size at w 64) i _ (λ h. let f = fitting size at w 64 h in (small, (f .some, (f .narrow, f .inside))))
     number-puts (raw.BadWidth n) i w = refl
@@ -121,4 +122,4 @@ module _ (size at lent : ℕ) where
         (text-puts b i (ltb 221 (b .len .0)) (not (eqb (b .len .0) 0)) 8 (16 + 8 * b .len .0) Counted (λ _. record { bytes = b .len .0 + 2; same = around-more (b .len .0); fits = omega arith })))
 
   pub weighed-puts : (f : FieldDescriptor) (i : ℕ) (v : PgnValue) → P (weighedOf f i v lent size at)
-  weighed-puts f i v = picked (ltb 223 size) _ _ (λ _. refl) (λ h. by-shape (ltb-false _ _ h) (shapeOf f) f i v)
+  weighed-puts f i v = picked (ltb payloadMax size) _ _ (λ _. refl) (λ h. by-shape (ltb-false _ _ h) (shapeOf f) f i v)

@@ -91,10 +91,10 @@ module _ (t : Table) (ok : checkOf t ≡ checked.Accepted) (p : Payload) (room :
 
 -- ## The answers
 
-ready : (t : Table) → checkOf t ≡ checked.Accepted → (received : ℕ) → received ≤ 223 → preparedOf t received payloadMax ≡ prepared.Ready
-ready t ok received l = rw (le-ltb 223 received l, ok)
+ready : (t : Table) → checkOf t ≡ checked.Accepted → (received : ℕ) → received ≤ payloadMax → preparedOf t received payloadMax ≡ prepared.Ready
+ready t ok received l = rw (le-ltb payloadMax received l, ok)
 
-module _ (t : Table) (ok : checkOf t ≡ checked.Accepted) (received : List ℕ) (short : length received ≤ 223) (room : ℕ) where
+module _ (t : Table) (ok : checkOf t ≡ checked.Accepted) (received : List ℕ) (short : length received ≤ payloadMax) (room : ℕ) where
   abbrev working : Payload
   working = payloadOf (workingOf t received)
 
@@ -111,7 +111,7 @@ module _ (t : Table) (ok : checkOf t ≡ checked.Accepted) (received : List ℕ)
 -- ## What encode accepted
 
 pub record Accepts (t : Table) (vs : Values) (lent size n : ℕ) : Type 0 where
-  pub short : size ≤ 223
+  pub short : size ≤ payloadMax
   pub table : checkOf t ≡ checked.Accepted
   pub begins : begunOf t size ≡ begun.Ready
   pub marks : List Mark
@@ -129,14 +129,14 @@ module _ (t : Table) (vs : Values) (lent size n : ℕ) where
   end-by (stopped ms f) h = let z : _≡_ {A = ℕ} 0 1 = cc in absurd (omega arith)
 
   pub accepts : encodedOf t vs lent size ≡ encoded.Ended (bytes n) → Accepts t vs lent size n
-  accepts h = go (ltb 223 size) (checkOf t) refl refl h
+  accepts h = go (ltb payloadMax size) (checkOf t) refl refl h
     where
-      go : (b : Bool) (c : Checked) → ltb 223 size ≡ b → checkOf t ≡ c → encodedIn (pick b (begun.Refused (WrongLength (bytes size))) (byCheck c)) t vs lent size ≡ encoded.Ended (bytes n) → Accepts t vs lent size n
+      go : (b : Bool) (c : Checked) → ltb payloadMax size ≡ b → checkOf t ≡ c → encodedIn (pick b (begun.Refused (WrongLength (bytes size))) (byCheck c)) t vs lent size ≡ encoded.Ended (bytes n) → Accepts t vs lent size n
       go true c q o e = let z : _≡_ {A = ℕ} 0 1 = cc in absurd (omega arith)
       go false (checked.Refused rule index) q o e = let z : _≡_ {A = ℕ} 0 1 = cc in absurd (omega arith)
       go false checked.Accepted q o e =
           let a = end-by (writesOf t (vs .offered) lent size) e in
-          record { short = ltb-false 223 size q; table = o; begins = rw (q, o); marks = a .0; end = a .1; writes = a .2; used = a .3 }
+          record { short = ltb-false payloadMax size q; table = o; begins = rw (q, o); marks = a .0; end = a .1; writes = a .2; used = a .3 }
 
 -- ## Read-back
 
@@ -144,11 +144,11 @@ module _ (t : Table) (vs : Values) (lent size n : ℕ) where
 module _ (t : Table) (ok : checkOf t ≡ checked.Accepted)
     (offered : ℕ → Offer) (known : (j : ℕ) → Offers Held (offered j)) (lent : List ℕ) (texts : AllBytes lent) (size : ℕ)
     (ms : List Mark) (s : Pen) (writes : writesOf t offered (length lent) size ≡ ran ms s)
-    (received : List ℕ) (short : length received ≤ 223) (holds : All (Holds (payloadOf (workingOf t received)) lent) ms) where
+    (received : List ℕ) (short : length received ≤ payloadMax) (holds : All (Holds (payloadOf (workingOf t received)) lent) ms) where
   abbrev payload : Payload
   payload = payloadOf (workingOf t received)
 
-  small : payload .size ≤ 223
+  small : payload .size ≤ payloadMax
   small = working-short t ok received short
 
   walks : (room : ℕ) → unskippedIn t (spansIn ms) ≤ room → walkOf t payload room ≡ ran (spansIn ms) (progressAt (s .at .0) (unskippedIn t (spansIn ms)) (s .counters))
@@ -188,7 +188,7 @@ read-back t vs lent buffer n texts known h =
     let s = a .end in
     let g = holds-all t (vs .offered) lent size (a .short) ms s (a .writes) in
     let received = take (bytesUsed s) (imageOf size ms lent) in
-    let short : length received ≤ 223 = (let l = a .short in let u = g .used in let k = g .long in omega arith) in
+    let short : length received ≤ payloadMax = (let l = a .short in let u = g .used in let k = g .long in omega arith) in
     record {
       marks = ms;
       end = s;

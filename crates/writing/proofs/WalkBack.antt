@@ -13,7 +13,7 @@ use Rattle.numbers.specs.Conversions.{rawOf}
 use Rattle.numbers.specs.declared.RawOf.the-variants as rawed
 use Rattle.numbers.specs.Held.{Held}
 use Rattle.tables.specs.Table.{Table}
-use Rattle.tables.specs.Check.{checkOf}
+use Rattle.tables.specs.Check.{checkOf, payloadMax}
 use Rattle.tables.specs.declared.Checked.the-variants as checked
 use Rattle.tables.proofs.Accepted.{placed}
 use Rattle.walking.specs.declared.Element.{Element}
@@ -125,7 +125,7 @@ module _ (t : Table) (ok : checkOf t ≡ checked.Accepted) (offered : ℕ → Of
       (λ i f last x g l h. tt) (λ k x. tt) beginning))
 
 module _ (t : Table) (ok : checkOf t ≡ checked.Accepted) (offered : ℕ → Offer) (known : (j : ℕ) → Offers Held (offered j)) (lent : List ℕ) (texts : AllBytes lent) (size : ℕ)
-    (p : Payload) (small : p .size ≤ 223) where
+    (p : Payload) (small : p .size ≤ payloadMax) where
   raws-fit : (i : ℕ) → i < t .count → (v : PgnValue) (r : ℕ) → Held v → rawOf (t .field i) v ≡ rawed.Raw r → t .field i .width ≤ 64 → r < 2 ^ t .field i .width
   raws-fit i l v r g q w = raw-fits t ok i l v r g q w
 

@@ -9,6 +9,7 @@ use Rattle.weighing.specs.declared.Lead.{Lead}
 use Rattle.weighing.specs.declared.Lead.the-variants.{Bare, Counted, Encoded, Empty}
 use Rattle.weighing.specs.declared.Weighed.{Weighed}
 use Rattle.weighing.specs.declared.Weighed.the-variants.{Number, Gap, Text, Refused}
+use Rattle.tables.specs.Check.{payloadMax}
 
 -- the bytes at a place of the lent text
 abbrev pub textIn : List ℕ → PgnBytes → List ℕ
@@ -50,7 +51,7 @@ pub record Whole (n : ℕ) (lead : Lead) (len : ℕ) : Type 0 where
 -- what has room: so many bytes of buffer, a cursor, so many bytes of lent text. What `weigh_field` and `weigh_gap` let through is so:
 -- proofs/Puts.antt
 abbrev pub Puttable : ℕ → ℕ → Weighed → ℕ → Type 0
-Puttable size at (Number n raw) lent = (size ≤ 223) × ((0 < n .0) × ((n .0 ≤ 64) × (at + n .0 ≤ size * 8)))
+Puttable size at (Number n raw) lent = (size ≤ payloadMax) × ((0 < n .0) × ((n .0 ≤ 64) × (at + n .0 ≤ size * 8)))
 Puttable size at (Gap n) lent = (size ≤ 65536) × (at + n .0 ≤ size * 8)
-Puttable size at (Text n lead b) lent = (size ≤ 223) × ((at + n .0 ≤ size * 8) × ((b .start .0 + b .len .0 ≤ lent) × Whole (n .0) lead (b .len .0)))
+Puttable size at (Text n lead b) lent = (size ≤ payloadMax) × ((at + n .0 ≤ size * 8) × ((b .start .0 + b .len .0 ≤ lent) × Whole (n .0) lead (b .len .0)))
 Puttable size at (Refused e) lent = size ≡ size

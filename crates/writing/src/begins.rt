@@ -9,13 +9,11 @@ use bits::ByteCount;
 use tables::Checked;
 use weighing::EncodeRefusal;
 
-const PAYLOAD_MAX: usize = 223;
-
 // 7, 8, or nothing.
 fn begun(words: &[u64], size: usize) -> Begun
     ensures { λ r. ⌜ r ≡ begunOf (tableOf (now (words .entry))) size ⌝ }
 {
-    if PAYLOAD_MAX < size {
+    if tables::PAYLOAD_MAX < size {
         return Begun::Refused(EncodeRefusal::WrongLength {
             length: ByteCount(size),
         });

@@ -4,6 +4,7 @@ ghost use Prim.Native.Nat.{_+_, _*_, _≤_, _<_};
 ghost use lib.ListN.{length, take, drop, replicate};
 ghost use Rattle.bits.specs.Bits.{written};
 ghost use Rattle.weighing.specs.declared.Lead.the-variants as lead;
+ghost use Rattle.tables.specs.Check.{payloadMax};
 ghost use Rattle.writing.specs.Ink.{poured, bytesBy, textIn, around, inked, Puttable};
 ghost use Rattle.weighing.specs.Weigh.{weighedOf};
 use bits::BitPos;
@@ -16,7 +17,7 @@ use weighing::Weighed;
 
 // Puts a byte at a bit.
 fn put_byte(buffer: &mut [u8], at: usize, x: u8)
-    requires { ⌜ (length (now buffer) ≤ 223) × (at + 8 ≤ length (now buffer) * 8) ⌝ }
+    requires { ⌜ (length (now buffer) ≤ payloadMax) × (at + 8 ≤ length (now buffer) * 8) ⌝ }
     ensures { λ _. ⌜ now (buffer .exit) ≡ written (now (buffer .entry)) at 8 x ⌝ }
 {
     let c = Cursor { at: BitPos(at) };
@@ -25,7 +26,7 @@ fn put_byte(buffer: &mut [u8], at: usize, x: u8)
 
 // Puts n bytes of the lent text from a bit on.
 fn pour(buffer: &mut [u8], at: usize, lent: &[u8], start: usize, n: usize)
-    requires { ⌜ (length (now buffer) ≤ 223) × ((at + 8 * n ≤ length (now buffer) * 8) × (start + n ≤ length (now lent))) ⌝ }
+    requires { ⌜ (length (now buffer) ≤ payloadMax) × ((at + 8 * n ≤ length (now buffer) * 8) × (start + n ≤ length (now lent))) ⌝ }
     ensures { λ _. ⌜ now (buffer .exit) ≡ poured (now (buffer .entry)) at (take n (drop start (now (lent .entry)))) ⌝ }
 {
     let mut j = 0;
@@ -37,7 +38,7 @@ fn pour(buffer: &mut [u8], at: usize, lent: &[u8], start: usize, n: usize)
 
 // Puts n bytes of 0xFF from a bit on.
 fn fill(buffer: &mut [u8], at: usize, n: usize)
-    requires { ⌜ (length (now buffer) ≤ 223) × (at + 8 * n ≤ length (now buffer) * 8) ⌝ }
+    requires { ⌜ (length (now buffer) ≤ payloadMax) × (at + 8 * n ≤ length (now buffer) * 8) ⌝ }
     ensures { λ _. ⌜ now (buffer .exit) ≡ poured (now (buffer .entry)) at (replicate n 0xff) ⌝ }
 {
     let mut j = 0;
@@ -49,7 +50,7 @@ fn fill(buffer: &mut [u8], at: usize, n: usize)
 
 // A text, and 0xFF up to `size` bytes.
 fn put_bare(buffer: &mut [u8], at: usize, lent: &[u8], start: usize, n: usize, size: usize)
-    requires { ⌜ (length (now buffer) ≤ 223) × ((at + 8 * size ≤ length (now buffer) * 8) × ((start + n ≤ length (now lent)) × (n ≤ size))) ⌝ }
+    requires { ⌜ (length (now buffer) ≤ payloadMax) × ((at + 8 * size ≤ length (now buffer) * 8) × ((start + n ≤ length (now lent)) × (n ≤ size))) ⌝ }
     ensures { λ _. ⌜ now (buffer .exit) ≡ poured (now (buffer .entry)) at (bytesBy lead.Bare (8 * size) (take n (drop start (now (lent .entry))))) ⌝ }
 {
     pour(buffer, at, lent, start, n);
@@ -58,7 +59,7 @@ fn put_bare(buffer: &mut [u8], at: usize, lent: &[u8], start: usize, n: usize, s
 
 // Length, text, zero.
 fn put_counted(buffer: &mut [u8], at: usize, lent: &[u8], start: usize, n: usize)
-    requires { ⌜ (length (now buffer) ≤ 223) × ((at + 8 * (n + 2) ≤ length (now buffer) * 8) × (start + n ≤ length (now lent))) ⌝ }
+    requires { ⌜ (length (now buffer) ≤ payloadMax) × ((at + 8 * (n + 2) ≤ length (now buffer) * 8) × (start + n ≤ length (now lent))) ⌝ }
     ensures { λ _. ⌜ now (buffer .exit) ≡ poured (now (buffer .entry)) at (bytesBy lead.Counted 0 (take n (drop start (now (lent .entry))))) ⌝ }
 {
     put_byte(buffer, at, n as u8);
@@ -68,7 +69,7 @@ fn put_counted(buffer: &mut [u8], at: usize, lent: &[u8], start: usize, n: usize
 
 // Length, encoding, text.
 fn put_encoded(buffer: &mut [u8], at: usize, x: u8, lent: &[u8], start: usize, n: usize)
-    requires { ⌜ (length (now buffer) ≤ 223) × ((at + 8 * (n + 2) ≤ length (now buffer) * 8) × (start + n ≤ length (now lent))) ⌝ }
+    requires { ⌜ (length (now buffer) ≤ payloadMax) × ((at + 8 * (n + 2) ≤ length (now buffer) * 8) × (start + n ≤ length (now lent))) ⌝ }
     ensures { λ _. ⌜ now (buffer .exit) ≡ poured (now (buffer .entry)) at (bytesBy (lead.Encoded x) 0 (take n (drop start (now (lent .entry))))) ⌝ }
 {
     put_byte(buffer, at, (n + 2) as u8);
@@ -78,7 +79,7 @@ fn put_encoded(buffer: &mut [u8], at: usize, x: u8, lent: &[u8], start: usize, n
 
 // A text in a field of `size` bytes, with what stands around it.
 fn put_text(buffer: &mut [u8], at: usize, size: usize, lead: Lead, b: PgnBytes, lent: &[u8])
-    requires { ⌜ (length (now buffer) ≤ 223) × ((at + 8 * size ≤ length (now buffer) * 8) × ((b .start .0 + b .len .0 ≤ length (now lent)) × (around lead (b .len .0) ≤ size))) ⌝ }
+    requires { ⌜ (length (now buffer) ≤ payloadMax) × ((at + 8 * size ≤ length (now buffer) * 8) × ((b .start .0 + b .len .0 ≤ length (now lent)) × (around lead (b .len .0) ≤ size))) ⌝ }
     ensures { λ _. ⌜ now (buffer .exit) ≡ poured (now (buffer .entry)) at (bytesBy lead (8 * size) (textIn (now (lent .entry)) b)) ⌝ }
 {
     let start = b.start.0;
@@ -108,7 +109,7 @@ fn put_weighed(buffer: &mut [u8], at: usize, weighed: Weighed, lent: &[u8])
 
 // Puts a number of n bits.
 fn put_number(buffer: &mut [u8], at: usize, n: usize, raw: u64)
-    requires { ⌜ (length (now buffer) ≤ 223) × ((0 < n) × ((n ≤ 64) × (at + n ≤ length (now buffer) * 8))) ⌝ }
+    requires { ⌜ (length (now buffer) ≤ payloadMax) × ((0 < n) × ((n ≤ 64) × (at + n ≤ length (now buffer) * 8))) ⌝ }
     ensures { λ _. ⌜ now (buffer .exit) ≡ written (now (buffer .entry)) at n raw ⌝ }
 {
     let c = Cursor { at: BitPos(at) };

@@ -33,7 +33,7 @@ pub use crate::strokes::write_next;
 pub struct Pen {
     pub at: BitPos,
     pub used: usize,
-    pub counters: [u64; 4],
+    pub counters: [u64; tables::SET_MAX],
 }
 
 // A walk between two turns.

@@ -3,7 +3,6 @@ ghost use mathlib.Core.Path.{_≡_};
 ghost use Prim.Native.Nat.{ℕ, _+_};
 ghost use mathlib.Core.Bool.{false};
 ghost use lib.ListN.{length};
-ghost use Rattle.bits.specs.Calls.{saturated};
 ghost use Rattle.tables.specs.Table.{tableOf};
 ghost use Rattle.walking.specs.Turns.{seen as seenOf};
 ghost use Rattle.walking.specs.Looks.{enterWith};
@@ -26,8 +25,6 @@ use walking::Spot;
 use weighing::EncodeRefusal;
 use weighing::Weighed;
 
-const MOST: usize = 0xffff_ffff_ffff_ffff;
-
 // A walk before its first field.
 pub fn start() -> Draft
     ensures { λ r. ⌜ r ≡ startOf ⌝ }
@@ -35,7 +32,7 @@ pub fn start() -> Draft
     let pen = Pen {
         at: BitPos(0),
         used: 0,
-        counters: [0; 4],
+        counters: [0; tables::SET_MAX],
     };
     Draft {
         spot: Spot::Field(0),
@@ -48,13 +45,6 @@ fn stroked(stroke: Stroke, spot: Spot, pen: Pen) -> Stroked
 {
     let draft = Draft { spot, pen };
     Stroked { stroke, draft }
-}
-
-// One more, saturating.
-fn one_more(n: usize) -> usize
-    ensures { λ r. ⌜ r ≡ saturated (n + 1) ⌝ }
-{
-    if n < MOST { n + 1 } else { MOST }
 }
 
 // The bits that what was weighed takes.
@@ -118,7 +108,7 @@ fn pen_after(words: &[u64], i: usize, e: Element, pen: Pen, weighed: Weighed) ->
             let to = at + bits.0;
             Pen {
                 at: BitPos(to),
-                used: one_more(used),
+                used: bits::sum(used, 1),
                 counters,
             }
         }
@@ -138,7 +128,7 @@ fn pen_after(words: &[u64], i: usize, e: Element, pen: Pen, weighed: Weighed) ->
             let to = at + bits.0;
             Pen {
                 at: BitPos(to),
-                used: one_more(used),
+                used: bits::sum(used, 1),
                 counters: cs,
             }
         }

@@ -3,12 +3,13 @@
 use borrow.Author.Needs.{needs}
 use mathlib.Core.Path.{_≡_}
 use lib.ListN.{length}
+use Rattle.tables.specs.Check.{payloadMax}
 use Rattle.samopute.specs.Bounds.{Within}
 use Rattle.samopute.proofs.run.Statement.{statement}
 use Rattle.samopute.proofs.run.Tie as tie
 
 abbrev Inv-loop : tie.InvT-loop
-Inv-loop input₀ payload₀ out₀ turns₀ at₀ input payload out turns at = ((length input ≡ 65536) × (length payload ≡ 223) × (length out ≡ 65536)) × Within at
+Inv-loop input₀ payload₀ out₀ turns₀ at₀ input payload out turns at = ((length input ≡ 65536) × (length payload ≡ payloadMax) × (length out ≡ 65536)) × Within at
 
 abbrev μ-loop : tie.MeasureT-loop
 μ-loop input₀ payload₀ out₀ turns₀ at₀ input payload out turns at = turns

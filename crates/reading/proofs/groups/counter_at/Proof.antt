@@ -5,6 +5,7 @@ use Prim.Native.Nat.{_≤_}
 use native.Mathlib.Omega.{arith}
 use lib.ListN.{length, List·getD-eq-default}
 use borrow.Author.Needs.{needs}
+use Rattle.tables.specs.Check.{setMax}
 use Rattle.reading.proofs.groups.counter_at.Statement.{statement}
 use Rattle.reading.proofs.groups.counter_at.Tie as tie
 
@@ -20,7 +21,7 @@ returns c = search needs
 returns-2 : tie.Need-returns-2
 returns-2 c =
     let a = c .before .args in
-    let l : length (a .t1) ≡ 4 = search needs in
+    let l : length (a .t1) ≡ setMax = search needs in
     let h : length (a .t1) ≤ a .k = omega arith in
     sym (List·getD-eq-default (a .t1) 0 {n = a .k} h)
 

@@ -4,6 +4,7 @@ use denote.Ref.{now}
 use Prim.Native.Nat.{ℕ, _-_, _≤_, min}
 use native.Mathlib.Omega.{arith}
 use Rattle.tables.specs.Table.{tableOf}
+use Rattle.tables.specs.Check.{setMax}
 use Rattle.tables.specs.declared.RepeatingFieldSet.{RepeatingFieldSet}
 use mathlib.Core.List.{List}
 use lib.ListN.{length, set, length-set}
@@ -16,7 +17,7 @@ use Rattle.reading.proofs.groups.noted.Statement.{statement}
 use Rattle.reading.proofs.groups.noted.Tie as tie
 
 abbrev Inv-loop : tie.InvT-loop
-Inv-loop words i r c₀ m k₀ c k = (k ≤ m) × (m ≤ 4) × (length c ≡ 4) × (m ≡ min (tableOf words .sets) 4) × (c ≡ notedTo (tableOf words) i r c₀ k)
+Inv-loop words i r c₀ m k₀ c k = (k ≤ m) × (m ≤ setMax) × (length c ≡ setMax) × (m ≡ min (tableOf words .sets) setMax) × (c ≡ notedTo (tableOf words) i r c₀ k)
 
 abbrev μ-loop : tie.MeasureT-loop
 μ-loop words i r c₀ m k₀ c k = m - k
@@ -31,7 +32,7 @@ loop-holds : tie.Need-loop-holds Inv-loop μ-loop
 loop-holds c =
     let a = c .before .before .before .args in
     let t = tableOf (now (a .words)) in
-    let e : c .least .result ≡ min (t .sets) 4 = c .least .ensures ∙ ap (λ (n : ℕ). min n 4) (c .before .set-count .ensures) in
+    let e : c .least .result ≡ min (t .sets) setMax = c .least .ensures ∙ ap (λ (n : ℕ). min n setMax) (c .before .set-count .ensures) in
     (omega arith, omega arith, search needs, e, noted-none t (a .i) (a .r) (a .cs))
 
 set-at-requires : tie.Need-set-at-requires Inv-loop μ-loop
@@ -78,7 +79,7 @@ returns c =
     let l = c .before in
     let a = l .before .before .before .before .args in
     let inv = l .loop .inv in
-    let e : l .loop .k ≡ min (tableOf (now (a .words)) .sets) 4 = omega (arith, inv .0, inv .3, c .loop-test .left) in
+    let e : l .loop .k ≡ min (tableOf (now (a .words)) .sets) setMax = omega (arith, inv .0, inv .3, c .loop-test .left) in
     inv .4 ∙ ap (notedTo (tableOf (now (a .words))) (a .i) (a .r) (a .cs)) e
 
 pub noted-spec : {M : Type 1} → statement M

@@ -33,17 +33,20 @@ returns-2 c =
     ∙ ap (λ (b : Bool). all true false b (within 1 32 (f .width))) (sym (s .is-scaled .ensures) ∙ c .if3 .taken))
     ∙ ap counterFieldFits (k .before .field-at .ensures)
 
+cast-width : tie.Need-cast-width
+cast-width c = search needs
+
 is-within-requires : tie.Need-is-within-requires
 is-within-requires c κs = search needs
 
 returns-3 : tie.Need-returns-3
 returns-3 c =
-    let s = c .before .before in
+    let s = c .before .before .before in
     let k = s .before .before .before in
     let f = k .before .field-at .result in
     c .is-within .ensures ∙
     sym (ap₂ (λ (a b : Bool). all a b (scaled (f .resolution)) (within 1 32 (f .width))) (sym (k .can-count .ensures) ∙ s .before .before .if1 .taken) (s .before .if2 .left)
-    ∙ ap (λ (b : Bool). all true false b (within 1 32 (f .width))) (sym (s .is-scaled .ensures) ∙ c .before .if3 .left))
+    ∙ ap (λ (b : Bool). all true false b (within 1 32 (f .width))) (sym (s .is-scaled .ensures) ∙ c .before .before .if3 .left))
     ∙ ap counterFieldFits (k .before .field-at .ensures)
 
 returns-4 : tie.Need-returns-4
@@ -61,6 +64,7 @@ counter-field-fits-spec =
     returns
     is-scaled-requires
     returns-2
+    cast-width
     is-within-requires
     returns-3
     returns-4)

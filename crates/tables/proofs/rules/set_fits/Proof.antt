@@ -102,8 +102,8 @@ returns-4 c =
     let g = s .set-at .result in
     sym (three d (leb 1 (g .size)) (holds d (c .before .if3 .left)) ∙ ap (λ (x : Bool). all true true true x (within 1 255 (g .maximum))) (lt-leb _ _ (c .if4 .taken))) ∙ as-law s
 
-is-between-requires : tie.Need-is-between-requires
-is-between-requires c κs = search needs
+is-within-requires : tie.Need-is-within-requires
+is-within-requires c κs = search needs
 
 returns-5 : tie.Need-returns-5
 returns-5 c =
@@ -112,7 +112,7 @@ returns-5 c =
     let e = n .before .before in
     let s = e .before in
     let g = s .set-at .result in
-    c .is-between .ensures
+    c .is-within .ensures
     ∙ sym (three d (leb 1 (g .size)) (holds d (c .before .before .if3 .left)) ∙ ap (λ (x : Bool). all true true true x (within 1 255 (g .maximum))) (le-leb _ _ (c .before .if4 .left))) ∙ as-law s
 
 pub set-fits-spec : {M : Type 1} → statement M
@@ -128,5 +128,5 @@ set-fits-spec =
     declared-bits-requires
     returns-3
     returns-4
-    is-between-requires
+    is-within-requires
     returns-5)

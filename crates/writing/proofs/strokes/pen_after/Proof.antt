@@ -24,8 +24,8 @@ add-to c =
     let a = z .args in
     record { fits = subst (λ (w : Weighed). Reaches (a .pen .at .0) w) (d .weighed .given .1) (z .pre) }
 
-one-more-requires : tie.Need-one-more-requires
-one-more-requires c κs = search needs
+sum-requires : tie.Need-sum-requires
+sum-requires c κs = search needs
 
 enum-known-weighed-2 : tie.Need-enum-known-weighed-2
 enum-known-weighed-2 c = search needs
@@ -47,8 +47,8 @@ add-to-3 c =
     let a = z .args in
     record { fits = subst (λ (w : Weighed). Reaches (a .pen .at .0) w) (d .weighed3 .given .1) (z .pre) }
 
-one-more-requires-2 : tie.Need-one-more-requires-2
-one-more-requires-2 c κs = search needs
+sum-requires-2 : tie.Need-sum-requires-2
+sum-requires-2 c κs = search needs
 
 enum-told : tie.Need-enum-told
 enum-told c = search needs
@@ -58,7 +58,7 @@ returns c =
     let d = c .before .before .before .before in
     let a = d .before .before .before .before .args in
     let n = d .weighed .given .0 .0 in
-    ap₂ (λ (u : ℕ) (cs : List ℕ). penAt (a .pen .at .0 + n .0) u cs) (c .one-more .ensures) (c .before .before .noted-by .ensures)
+    ap₂ (λ (u : ℕ) (cs : List ℕ). penAt (a .pen .at .0 + n .0) u cs) (c .sum .ensures) (c .before .before .noted-by .ensures)
     ∙ ap (penAfter (tableOf (now (a .words))) (a .i) (a .e) (a .pen)) (sym (d .weighed .given .1))
 
 returns-2 : tie.Need-returns-2
@@ -72,7 +72,7 @@ returns-3 c =
     let d = c .before .before .before in
     let a = d .before .before .before .before .args in
     let n = d .weighed3 .given .0 .0 in
-    ap (λ (u : ℕ). penAt (a .pen .at .0 + n .0) u (a .pen .counters)) (c .one-more2 .ensures)
+    ap (λ (u : ℕ). penAt (a .pen .at .0 + n .0) u (a .pen .counters)) (c .sum2 .ensures)
     ∙ ap (penAfter (tableOf (now (a .words))) (a .i) (a .e) (a .pen)) (sym (d .weighed3 .given .1))
 
 returns-4 : tie.Need-returns-4
@@ -87,12 +87,12 @@ pen-after-spec =
     enum-known-weighed
     noted-by-requires
     add-to
-    one-more-requires
+    sum-requires
     enum-known-weighed-2
     add-to-2
     enum-known-weighed-3
     add-to-3
-    one-more-requires-2
+    sum-requires-2
     enum-told
     returns
     returns-2
