@@ -36,12 +36,13 @@ code-small (F64 x) = lit≤ tt
 code-small (F32 x) = lit≤ tt
 code-small (Bytes b) = lit≤ tt
 
-pub silence-small : (a : Availability) → silenceOf a ≤ 1
+-- an availability is a byte, whatever states it has
+pub silence-small : (a : Availability) → silenceOf a ≤ 255
 silence-small Available = lit≤ tt
 silence-small NotAvailable = lit≤ tt
 
 -- of a value's words
-pub words-small : (v : PgnValue) (a : Availability) (n : NumberWords) → n ≡ wordsOf v (silenceOf a) → (n .silence ≤ 1) × (n .code ≤ 11)
+pub words-small : (v : PgnValue) (a : Availability) (n : NumberWords) → n ≡ wordsOf v (silenceOf a) → (n .silence ≤ 255) × (n .code ≤ 11)
 words-small v a n e =
     let s : n .silence ≡ silenceOf a = ap (λ (m : NumberWords). m .silence) e in
     let k : n .code ≡ codeOf v = ap (λ (m : NumberWords). m .code) e in

@@ -114,7 +114,7 @@ pub(crate) fn put_words(
     raw: u64,
     n: NumberWords,
 )
-    requires { ⌜ (at + 64 ≤ length (now out)) × ((n .silence ≤ 1) × (n .code ≤ 11)) ⌝ }
+    requires { ⌜ (at + 64 ≤ length (now out)) × ((n .silence ≤ 255) × (n .code ≤ 11)) ⌝ }
     ensures { λ _. ⌜ now (out .exit) ≡ puts (now (out .entry)) at (laid (numberRecord i e start width raw n)) ⌝ }
 {
     let code = n.code;
