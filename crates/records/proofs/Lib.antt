@@ -7,4 +7,5 @@ pub mod Leading
 pub mod Storing
 pub mod Counting
 pub mod Known
+pub mod Untouched
 pub mod OneAnswer
