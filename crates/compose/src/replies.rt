@@ -6,8 +6,8 @@ ghost use Rattle.textio.specs.Bounds.{Within};
 use crate::answers;
 use crate::orders;
 use frames::Frame;
-use frames::Known;
-use frames::Message;
+use messages::Known;
+use messages::Message;
 use textio::Lines;
 use textio::next_line;
 use writing::Encoded;
@@ -63,7 +63,7 @@ fn by_pgn(pgn: u32, values: &[u8], lent: &[u8], out: &mut [u8], at: Lines) -> Li
     requires { ⌜ Within at ⌝ }
     ensures { λ r. ⌜ (Within r) × (r .held ≡ 0) ⌝ }
 {
-    match frames::message_of(pgn) {
+    match messages::message_of(pgn) {
         Known::Message(message) => {
             let mut payload = [0u8; tables::PAYLOAD_MAX];
             let encoded = encode(message, values, lent, &mut payload);

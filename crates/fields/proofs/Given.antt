@@ -21,7 +21,7 @@ use Rattle.fields.specs.declared.Shape.the-variants.{Number, Gap, Fixed,
 use Rattle.fields.specs.declared.Taken.{Taken}
 use Rattle.fields.specs.declared.Taken.the-variants.{Took, Refused}
 use Rattle.fields.specs.Payload.{Payload}
-use Rattle.fields.specs.Refusals.{numberOf, givenByDecode}
+use Rattle.fields.specs.Refusals.{numberOf, givenInWalk}
 use Rattle.fields.specs.Shapes.{shapeOf}
 use Rattle.fields.specs.Taken.{ifRoom, shortOf, roomAt, bytesRoom, textRoom, fixedBytes, lauTaken, lzTaken, takenBy, takenOf}
 use Rattle.fields.proofs.Cut.{inBits, room-only, cut-short}
@@ -67,10 +67,10 @@ module _ (p : Payload) (small : p .size ≤ payloadMax) (at : ℕ) where
 
 -- ## Fields
 
--- what is taken, or a refusal that a decode gives
+-- what is taken, or a refusal that the walk of a decode gives
 abbrev pub Given : Taken → Type 0
 Given (Took n) = Unit {0}
-Given (Refused f) = givenByDecode (numberOf f) ≡ true
+Given (Refused f) = givenInWalk (numberOf f) ≡ true
 
 if-room : {r : Room} (i : ℕ) (later : Taken) → Fair r → Given later → Given (ifRoom r i later)
 if-room i later fits h = h

@@ -6,6 +6,7 @@ use Rattle.fields.proofs.shapes.is_gap.Reads as is-gap
 use Rattle.fields.proofs.shapes.shape_of.Reads as shape-of
 use Rattle.fields.proofs.availability.field_availability.Reads as field-availability
 use Rattle.fields.proofs.read.read_field_raw_and_value.Reads as read-field-raw-and-value
+use Rattle.fields.proofs.refusals.touches_nothing.Reads as touches-nothing
 use Rattle.fields.proofs.DecodeRefusal.number.Reads as number
 use Rattle.fields.proofs.DecodeRefusal.carried_count.Reads as carried-count
 use Rattle.fields.proofs.DecodeRefusal.carried.Reads as carried
@@ -19,6 +20,9 @@ one-read-field-raw-and-value = fixed (λ κs a x s p. p)
 
 one-number : Fixes number.Post (λ κs x s. x)
 one-number = fixed (λ κs a x s p. p)
+
+one-touches-nothing : Fixes touches-nothing.Post (λ κs x s. x)
+one-touches-nothing = fixed (λ κs a x s p. p)
 
 one-carried-count : Fixes carried-count.Post (λ κs x s. x)
 one-carried-count = fixed (λ κs a x s p. p)

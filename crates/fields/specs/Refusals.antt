@@ -17,9 +17,17 @@ numberOf (WrongLength length) = 7
 numberOf (TableRefused rule index) = 8
 numberOf (NoRoom field) = 9
 
--- the numbers that a decode can give: "No refusal is given otherwise". 1 would take a width that no accepted table has, 6 a payload that 7 refuses
+-- "Refusals 7 and 8 touch no buffer": the numbers that a decode gives before its walk
+abbrev pub touchesNothing : ℕ → Bool
+touchesNothing n = eqb n 7 || eqb n 8
+
+-- those that its walk gives: 1 would take a width that no accepted table has, 6 a payload that 7 refuses
+abbrev pub givenInWalk : ℕ → Bool
+givenInWalk n = eqb n 2 || eqb n 3 || eqb n 4 || eqb n 5 || eqb n 9
+
+-- the numbers that a decode can give: "No refusal is given otherwise"
 abbrev pub givenByDecode : ℕ → Bool
-givenByDecode n = eqb n 2 || eqb n 3 || eqb n 4 || eqb n 5 || eqb n 7 || eqb n 8 || eqb n 9
+givenByDecode n = givenInWalk n || touchesNothing n
 
 -- what it carries: 4 field; 5 set, count, maximum; 7 length; 8 rule letter, index; 9 field. "Inside decode and encode, 1 to 3 also name
 -- the field", which comes first

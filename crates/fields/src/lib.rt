@@ -19,6 +19,7 @@ mod texts;
 
 pub use crate::availability::field_availability;
 pub use crate::read::read_field_raw_and_value;
+pub use crate::refusals::touches_nothing;
 pub use crate::shapes::is_gap;
 pub use crate::shapes::is_number;
 pub use crate::shapes::shape_of;

@@ -1,9 +1,9 @@
 // Document 01's number for a refusal, the values that it carries, in the paper's order, and what they
-// count.
+// count; and which of the numbers touch no buffer.
 ghost use mathlib.Core.Path.{_≡_};
 ghost use mathlib.Core.List.{[], _∷_};
 ghost use lib.ListN.{length, getD};
-ghost use Rattle.fields.specs.Refusals.{numberOf, carriedOf, unitOf};
+ghost use Rattle.fields.specs.Refusals.{numberOf, touchesNothing, carriedOf, unitOf};
 use crate::DecodeRefusal;
 
 impl DecodeRefusal {
@@ -84,6 +84,17 @@ impl DecodeRefusal {
             DecodeRefusal::NoRoom { field: _ } => 0,
         }
     }
+}
+
+// Whether a decode that is refused with this number leaves the padding run and the readings as they
+// were. It goes by the number, since that is what is kept of a refusal where it has been told.
+pub fn touches_nothing(number: u32) -> bool
+    ensures { λ r. ⌜ r ≡ touchesNothing number ⌝ }
+{
+    if number == 7 {
+        return true;
+    }
+    number == 8
 }
 
 // a at 0, b at 1, c at 2, and 0 past them.

@@ -5,7 +5,6 @@ use Rattle.one_answer.proofs.Fixes.{Fixes, fixed}
 use Rattle.frames.proofs.walks.is_last.Reads as is-last
 use Rattle.frames.proofs.digest.empty_line.Reads as empty-line
 use Rattle.frames.proofs.digest.feed.Reads as feed
-use Rattle.frames.proofs.lookup.message_of.Reads as message-of
 use Rattle.frames.proofs.lookup.frame_of.Reads as frame-of
 use Rattle.frames.proofs.Frame.number.Reads as number
 use Rattle.frames.proofs.Frame.carried_count.Reads as carried-count
@@ -19,9 +18,6 @@ one-feed = fixed (λ κs a x s p. p .0)
 
 same-feed : Fixes feed.Post (λ κs x s. now (s .1 .0))
 same-feed = fixed (λ κs a x s p. p .1)
-
-one-message-of : Fixes message-of.Post (λ κs x s. x)
-one-message-of = fixed (λ κs a x s p. p)
 
 one-frame-of : Fixes frame-of.Post (λ κs x s. x)
 one-frame-of = fixed (λ κs a x s p. p)

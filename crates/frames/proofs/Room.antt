@@ -5,9 +5,10 @@ use Prim.Native.Nat.{ℕ, _≤_}
 use native.Mathlib.Omega.{arith}
 use lib.ListN.{length}
 use Rattle.tables.specs.Table.{tableOf}
-use Rattle.tables.specs.Check.{checkOf, payloadMax}
-use Rattle.tables.specs.declared.Checked.the-variants.{Accepted}
-use Rattle.messages.proofs.Accepted.{accepted129025, accepted129026, accepted129029, accepted130900}
+use Rattle.tables.specs.Check.{payloadMax}
+use Rattle.messages.specs.declared.Message.{Message}
+use Rattle.messages.specs.Messages.{wordsOf}
+use Rattle.messages.proofs.Accepted.{accepted}
 use Rattle.fields.specs.declared.DecodeRefusal.the-variants.{NoRoom}
 use Rattle.fields.specs.Payload.{payloadOf}
 use Rattle.reading.specs.declared.Walk.{Walk}
@@ -16,15 +17,6 @@ use Rattle.reading.specs.Steps.{nextOf}
 use Rattle.reading.specs.Demand3.{roomEnough}
 use Rattle.reading.proofs.Looped.{Going}
 use Rattle.reading.proofs.Answered.{enough-turn}
-use Rattle.frames.specs.declared.Message.{Message}
-use Rattle.frames.specs.declared.Message.the-variants.{M129025, M129026, M129029, M130900}
-use Rattle.frames.specs.Frames.{wordsOf}
-
-accepted : (m : Message) → checkOf (tableOf (wordsOf m)) ≡ Accepted
-accepted M129025 = accepted129025
-accepted M129026 = accepted129026
-accepted M129029 = accepted129029
-accepted M130900 = accepted130900
 
 -- at any place of the walk from `start` on
 pub never-full : (m : Message) (payload : List ℕ) → length payload ≤ payloadMax → (w : Walk) → Going (tableOf (wordsOf m)) (payloadOf payload) roomEnough w → (i : ℕ)

@@ -23,10 +23,10 @@ pub use crate::answers::put_refused;
 pub use crate::digest::empty_line;
 pub use crate::digest::feed;
 pub use crate::lookup::frame_of;
-pub use crate::lookup::message_of;
 pub use crate::walks::is_last;
 pub use crate::walks::put_first;
 pub use crate::walks::put_more;
+use messages::Message;
 use reading::Walk;
 
 // What is known of a line by its bytes so far: how many digits they are, the number in the first six
@@ -42,20 +42,6 @@ pub struct Line {
 pub struct Fed {
     pub line: Line,
     pub taken: usize,
-}
-
-// The built-in messages, by their PGNs.
-pub enum Message {
-    M129025,
-    M129026,
-    M129029,
-    M130900,
-}
-
-// The message of a PGN, if it is a built-in one.
-pub enum Known {
-    Message(Message),
-    Unknown,
 }
 
 // What a line is: a frame of a built-in message, with the bytes of its payload counted; or 14 or 15,

@@ -10,12 +10,7 @@
 //
 //     decode          all of it in one call
 //     fresh, turn     turn by turn, for a run of something else that is made of each reading
-ghost use mathlib.Core.Path.{_≡_};
-ghost use lib.ListN.{length};
-ghost use Rattle.tables.specs.Table.{tableOf};
-ghost use Rattle.reading.specs.Filling.{runAfter};
-ghost use Rattle.reading.specs.Decode.{decodedOf};
-ghost use Rattle.lent_readings.specs.Run.{entriesAfter};
+ghost use Rattle.lent_readings.specs.Contracts.{Decodes};
 use reading::Decoded;
 use reading::Reading;
 use reading::Walk;
@@ -47,7 +42,7 @@ pub struct Step {
 // Every field of a received payload, by a table, into a run of readings: the end and the number of
 // readings, or the refusal. The padding run is of 223 bytes.
 pub fn decode(words: &[u64], received: &[u8], padded: &mut [u8], out: &mut [Reading]) -> Decoded
-    ensures { λ r. ⌜ (r ≡ decodedOf (tableOf (now (words .entry))) (now (received .entry)) (length (now (padded .entry))) (length (now (out .entry)))) × ((now (padded .exit) ≡ runAfter (tableOf (now (words .entry))) (now (received .entry)) (now (padded .entry))) × (now (out .exit) ≡ entriesAfter (tableOf (now (words .entry))) (now (received .entry)) (length (now (padded .entry))) (now (out .entry)))) ⌝ }
+    ensures { λ r. ⌜ Decodes r (now (padded .exit)) (now (out .exit)) (now (words .entry)) (now (received .entry)) (now (padded .entry)) (now (out .entry)) ⌝ }
 {
     let mut c = fresh();
     loop {

@@ -2,8 +2,8 @@
 ghost use mathlib.Core.Path.{_≡_};
 ghost use Rattle.bits.specs.Calls.{bits};
 ghost use Rattle.reading.specs.declared.Decoded.the-variants as decoded;
-ghost use Rattle.tables.specs.Table.{tableOf};
-ghost use Rattle.lent_readings.specs.Steps.{blank, freshStep, onStep, storingStep, overStep, begunBy, turnedBy, stepOf, paddedAfter};
+ghost use Rattle.lent_readings.specs.Steps.{blank, freshStep, onStep, storingStep, overStep, begunBy, turnedBy};
+ghost use Rattle.lent_readings.specs.Contracts.{Turns};
 use crate::Step;
 use bits::BitPos;
 use descriptor::Availability;
@@ -130,7 +130,7 @@ fn turned(next: Next, made: usize) -> Step
 
 // A turn, with room for so many readings in all: the first one prepares, each other one takes a turn of the walk.
 pub fn turn(words: &[u64], received: &[u8], padded: &mut [u8], c: Step, room: usize) -> Step
-    ensures { λ r. ⌜ (r ≡ stepOf (tableOf (now (words .entry))) (now (received .entry)) (now (padded .entry)) room c) × (now (padded .exit) ≡ paddedAfter (tableOf (now (words .entry))) (now (received .entry)) (now (padded .entry)) c) ⌝ }
+    ensures { λ r. ⌜ Turns r (now (padded .exit)) (now (words .entry)) (now (received .entry)) (now (padded .entry)) c room ⌝ }
 {
     if c.fresh {
         return begun(reading::prepare(words, received, padded));

@@ -5,11 +5,7 @@
 // is specs/Encode.antt there. The buffer at exit is that of specs/Encode.antt too. It has no `requires`.
 //
 // `encode` alone touches the lent values, one at a time; `steps` has the walk, turn by turn.
-ghost use mathlib.Core.Path.{_≡_};
-ghost use lib.ListN.{length};
-ghost use Rattle.tables.specs.Table.{tableOf};
-ghost use Rattle.writing.specs.Encode.{encodedOf, bufferAfter};
-ghost use Rattle.lent_values.specs.Run.{valuesOf};
+ghost use Rattle.lent_values.specs.Contracts.{Encodes};
 use descriptor::PgnValue;
 use writing::Draft;
 use writing::Encoded;
@@ -30,7 +26,7 @@ pub(crate) struct Step {
 // Values by a table into a buffer: the bytes used, or the refusal. The texts of the values stand in the
 // lent text.
 pub fn encode(words: &[u64], values: &[PgnValue], lent: &[u8], buffer: &mut [u8]) -> Encoded
-    ensures { λ r. ⌜ (r ≡ encodedOf (tableOf (now (words .entry))) (valuesOf (now (values .entry))) (length (now (lent .entry))) (length (now (buffer .entry)))) × (now (buffer .exit) ≡ bufferAfter (tableOf (now (words .entry))) (valuesOf (now (values .entry))) (now (lent .entry)) (now (buffer .entry))) ⌝ }
+    ensures { λ r. ⌜ Encodes r (now (buffer .exit)) (now (words .entry)) (now (values .entry)) (now (lent .entry)) (now (buffer .entry)) ⌝ }
 {
     let mut c = steps::fresh();
     let mut v = PgnValue::U8(0);

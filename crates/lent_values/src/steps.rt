@@ -1,11 +1,8 @@
 // One turn of the walk. A turn takes the value at the place that the turn before it asked for.
 ghost use mathlib.Core.Path.{_≡_};
 ghost use lib.Dec.{ltb};
-ghost use lib.ListN.{length};
-ghost use Rattle.tables.specs.Table.{tableOf};
-ghost use Rattle.writing.specs.Encode.{begunOf};
-ghost use Rattle.writing.specs.Strokes.{onesIf, strokedOf, leftOf};
-ghost use Rattle.lent_values.specs.Turn.{offerBy, freshStep, goingOn, overWith, firstBy, nextBy, nextOf, stepOf, leftIn};
+ghost use Rattle.lent_values.specs.Turn.{offerBy, freshStep, goingOn, overWith, nextBy};
+ghost use Rattle.lent_values.specs.Contracts.{Begins, Goes, Steps};
 use crate::Step;
 use bits::ByteCount;
 use descriptor::PgnValue;
@@ -61,7 +58,7 @@ fn over_with(draft: Draft, encoded: Encoded) -> Step
 
 // The first turn: refusal 7 or 8, or a buffer of ones.
 fn first(words: &[u64], buffer: &mut [u8], count: usize) -> Step
-    ensures { λ r. ⌜ (r ≡ firstBy (begunOf (tableOf (now (words .entry))) (length (now (buffer .entry)))) count) × (now (buffer .exit) ≡ onesIf (begunOf (tableOf (now (words .entry))) (length (now (buffer .entry)))) (now (buffer .entry))) ⌝ }
+    ensures { λ r. ⌜ Begins r (now (buffer .exit)) (now (words .entry)) (now (buffer .entry)) count ⌝ }
 {
     let begun = writing::begin(words, buffer);
     let draft = writing::start();
@@ -105,7 +102,7 @@ fn next(
     v: PgnValue,
     count: usize,
 ) -> Step
-    ensures { λ r. ⌜ (r ≡ nextOf (strokedOf (tableOf (now (words .entry))) (offerBy (ltb (draft .pen .used) count) v) (length (now (lent .entry))) (length (now (buffer .entry))) draft) count) × (now (buffer .exit) ≡ leftOf (tableOf (now (words .entry))) (offerBy (ltb (draft .pen .used) count) v) (now (lent .entry)) (now (buffer .entry)) draft) ⌝ }
+    ensures { λ r. ⌜ Goes r (now (buffer .exit)) (now (words .entry)) (now (lent .entry)) (now (buffer .entry)) draft v count ⌝ }
 {
     let pen = draft.pen;
     let offer = offered(v, pen.used, count);
@@ -124,7 +121,7 @@ pub(crate) fn step(
     v: PgnValue,
     count: usize,
 ) -> Step
-    ensures { λ r. ⌜ (r ≡ stepOf (tableOf (now (words .entry))) (length (now (lent .entry))) (length (now (buffer .entry))) c v count) × (now (buffer .exit) ≡ leftIn (tableOf (now (words .entry))) (now (lent .entry)) (now (buffer .entry)) c v count) ⌝ }
+    ensures { λ r. ⌜ Steps r (now (buffer .exit)) (now (words .entry)) (now (lent .entry)) (now (buffer .entry)) c v count ⌝ }
 {
     if c.fresh {
         first(words, buffer, count)

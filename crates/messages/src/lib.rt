@@ -1,10 +1,31 @@
-// The built-in tables: PGN 129025, 129026, 129029 and 130900, in the words that `tables` reads.
+// The built-in messages: PGN 129025, 129026, 129029 and 130900, with their tables in the words that
+// `tables` reads.
 //
-// Promise: each table is the words that specs/Tables.antt lists, which the contract of the function of
-// its name says, and proofs/Accepted.antt computes that the table check accepts them. None of the four
-// has a length or a minimum.
+// Promise: `message_of` answers which message a PGN is, and this list is the only one: whoever reads or
+// writes by a PGN goes by it. Each table is the words that specs/Tables.antt lists, which the contract
+// of the function of its name says, and proofs/Accepted.antt computes that the table check accepts them.
+// None of the four has a length or a minimum. A constant can be lent only where it is named, so each
+// such caller has a match of its own from the message to its table, held to `wordsOf`.
 ghost use mathlib.Core.Path.{_≡_};
 ghost use Rattle.messages.specs.Tables.{words129025, words129026, words129029, words130900};
+
+mod lookup;
+
+pub use crate::lookup::message_of;
+
+// The built-in messages, by their PGNs.
+pub enum Message {
+    M129025,
+    M129026,
+    M129029,
+    M130900,
+}
+
+// The message of a PGN, if it is a built-in one.
+pub enum Known {
+    Message(Message),
+    Unknown,
+}
 
 // The kinds by their codes.
 const NUMBER: u64 = 0;

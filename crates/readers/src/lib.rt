@@ -7,6 +7,7 @@ ghost use mathlib.Core.Path.{_≡_};
 ghost use lib.ListN.{length};
 ghost use Rattle.bits.specs.Calls.{cursorAt, remainingOf, readU64Of, readU32Of, readU16Of, readU8Of, advanceOf, readSliceOf};
 ghost use Rattle.readers.specs.Reader.{atCursor, afterU64, afterU32, afterU16, afterU8, afterMoved, afterSlice};
+ghost use Rattle.readers.specs.Contracts.{Reads};
 use bits::BitPos;
 use bits::ByteCount;
 use bits::Cursor;
@@ -58,7 +59,7 @@ impl<'a> BitReader<'a> {
 
     // A number of n bits.
     pub fn read_u64(&mut self, n: u32) -> ReadU64
-        ensures { λ a. ⌜ (a ≡ readU64Of (now (now (self .entry) .src)) (now (self .entry) .cursor) n) × (now (self .exit) ≡ atCursor (now (self .entry)) (afterU64 a (now (self .entry) .cursor))) ⌝ }
+        ensures { λ a. ⌜ Reads afterU64 a (now (self .exit)) (now (self .entry)) (readU64Of (now (now (self .entry) .src)) (now (self .entry) .cursor) n) ⌝ }
     {
         let c = self.cursor;
         let a = c.read_u64(self.src, n);
@@ -67,7 +68,7 @@ impl<'a> BitReader<'a> {
     }
 
     pub fn read_u32(&mut self, n: u32) -> ReadU32
-        ensures { λ a. ⌜ (a ≡ readU32Of (now (now (self .entry) .src)) (now (self .entry) .cursor) n) × (now (self .exit) ≡ atCursor (now (self .entry)) (afterU32 a (now (self .entry) .cursor))) ⌝ }
+        ensures { λ a. ⌜ Reads afterU32 a (now (self .exit)) (now (self .entry)) (readU32Of (now (now (self .entry) .src)) (now (self .entry) .cursor) n) ⌝ }
     {
         let c = self.cursor;
         let a = c.read_u32(self.src, n);
@@ -76,7 +77,7 @@ impl<'a> BitReader<'a> {
     }
 
     pub fn read_u16(&mut self, n: u32) -> ReadU16
-        ensures { λ a. ⌜ (a ≡ readU16Of (now (now (self .entry) .src)) (now (self .entry) .cursor) n) × (now (self .exit) ≡ atCursor (now (self .entry)) (afterU16 a (now (self .entry) .cursor))) ⌝ }
+        ensures { λ a. ⌜ Reads afterU16 a (now (self .exit)) (now (self .entry)) (readU16Of (now (now (self .entry) .src)) (now (self .entry) .cursor) n) ⌝ }
     {
         let c = self.cursor;
         let a = c.read_u16(self.src, n);
@@ -85,7 +86,7 @@ impl<'a> BitReader<'a> {
     }
 
     pub fn read_u8(&mut self, n: u32) -> ReadU8
-        ensures { λ a. ⌜ (a ≡ readU8Of (now (now (self .entry) .src)) (now (self .entry) .cursor) n) × (now (self .exit) ≡ atCursor (now (self .entry)) (afterU8 a (now (self .entry) .cursor))) ⌝ }
+        ensures { λ a. ⌜ Reads afterU8 a (now (self .exit)) (now (self .entry)) (readU8Of (now (now (self .entry) .src)) (now (self .entry) .cursor) n) ⌝ }
     {
         let c = self.cursor;
         let a = c.read_u8(self.src, n);
@@ -95,7 +96,7 @@ impl<'a> BitReader<'a> {
 
     // Past n bits, with the limits of a 64-bit read.
     pub fn advance(&mut self, n: u32) -> Moved
-        ensures { λ a. ⌜ (a ≡ advanceOf (length (now (now (self .entry) .src))) (now (self .entry) .cursor) n 64) × (now (self .exit) ≡ atCursor (now (self .entry)) (afterMoved a (now (self .entry) .cursor))) ⌝ }
+        ensures { λ a. ⌜ Reads afterMoved a (now (self .exit)) (now (self .entry)) (advanceOf (length (now (now (self .entry) .src))) (now (self .entry) .cursor) n 64) ⌝ }
     {
         let c = self.cursor;
         let a = c.advance(self.src, n);
@@ -105,7 +106,7 @@ impl<'a> BitReader<'a> {
 
     // Where the len bytes from the cursor on stand. The part's `bytes` hands them out, of the reader's `src`.
     pub fn read_slice(&mut self, len: ByteCount) -> ReadSlice
-        ensures { λ a. ⌜ (a ≡ readSliceOf (length (now (now (self .entry) .src))) (now (self .entry) .cursor) (len .0)) × (now (self .exit) ≡ atCursor (now (self .entry)) (afterSlice a (now (self .entry) .cursor))) ⌝ }
+        ensures { λ a. ⌜ Reads afterSlice a (now (self .exit)) (now (self .entry)) (readSliceOf (length (now (now (self .entry) .src))) (now (self .entry) .cursor) (len .0)) ⌝ }
     {
         let c = self.cursor;
         let a = c.read_slice(self.src, len);

@@ -1,11 +1,14 @@
--- "No refusal is given otherwise", of a whole decode: its number is 2, 3, 4, 5, 7, 8 or 9. So 1 and 6, which a bit call has, are given by none. Assumes nothing.
-use mathlib.Core.Path.{_≡_, refl, ap, _∙_, subst}
-use mathlib.Core.Bool.{Bool, true, false}
+-- "No refusal is given otherwise", of a whole decode: its number is 2, 3, 4, 5, 7, 8 or 9. So 1 and 6, which a bit call has, are given by none. And those that touch no
+-- buffer, 7 and 8, are given before the walk, the others by it. Assumes nothing.
+use mathlib.Core.Path.{_≡_, refl, sym, ap, _∙_, subst}
+use mathlib.Core.Bool.{Bool, true, false, _||_, false≢true}
 use mathlib.Core.List.{List}
+use mathlib.Core.Logic.{_⊎_, inl, inr, ⊎-elim}
 use Prim.Native.Nat.{ℕ, _≤_}
 use native.Mathlib.Omega.{arith}
 use lib.Dec.{eqb, ltb}
 use lib.ListN.{length}
+use borrow.Author.Tests.{eqb-true}
 use Rattle.bits.specs.Bits.{pick}
 use Rattle.bits.specs.Calls.{bytes}
 use Rattle.descriptor.specs.declared.FieldDescriptor.{FieldDescriptor}
@@ -26,7 +29,7 @@ use Rattle.fields.specs.declared.Taken.the-variants as taken
 use Rattle.fields.specs.declared.FieldRead.{FieldRead}
 use Rattle.fields.specs.declared.FieldRead.the-variants as read
 use Rattle.fields.specs.Payload.{Payload, payloadOf}
-use Rattle.fields.specs.Refusals.{numberOf, givenByDecode}
+use Rattle.fields.specs.Refusals.{numberOf, touchesNothing, givenInWalk, givenByDecode}
 use Rattle.fields.specs.Shapes.{shapeOf}
 use Rattle.fields.specs.Taken.{takenOf}
 use Rattle.fields.specs.Content.{readOver, fieldReadOf}
@@ -42,9 +45,22 @@ use Rattle.reading.specs.Decode.{settled, oneOf, countOf, beginning, wal
 use Rattle.reading.proofs.Working.{readied, working-le}
 use Rattle.reading.proofs.Lasts.{in-table}
 
--- a refusal that a decode gives
+-- a refusal that the walk gives
 abbrev Gives : DecodeRefusal → Type 0
-Gives f = givenByDecode (numberOf f) ≡ true
+Gives f = givenInWalk (numberOf f) ≡ true
+
+-- one that is given before it
+abbrev Spares : DecodeRefusal → Type 0
+Spares f = touchesNothing (numberOf f) ≡ true
+
+-- no number is of both
+apart : (n : ℕ) → givenInWalk n ≡ true → touchesNothing n ≡ true → ⊥
+apart n g h = go (eqb n 7) (eqb n 8) refl refl h
+  where
+    go : (a b : Bool) → eqb n 7 ≡ a → eqb n 8 ≡ b → a || b ≡ true → ⊥
+    go true b e f z = false≢true (ap givenInWalk (sym (eqb-true n 7 e)) ∙ g)
+    go false true e f z = false≢true (ap givenInWalk (sym (eqb-true n 8 f)) ∙ g)
+    go false false e f z = false≢true z
 
 -- what is read of a field is refused as its bits are
 read-gives : (sh : Shape) (d : FieldDescriptor) (p : Payload) (at : ℕ) (o : Taken) (f : DecodeRefusal) → Given o → readOver o sh d p at ≡ read.Refused f → Gives f
@@ -91,15 +107,19 @@ module _ (t : Table) (ok : checkOf t ≡ checked.Accepted) (p : Payload) (small 
 
 -- ## All of it
 
-prepared-gives : (t : Table) (received padded : ℕ) (f : DecodeRefusal) → preparedOf t received padded ≡ prepared.Refused f → Gives f
-prepared-gives t received padded f h = go (ltb payloadMax received) (eqb padded payloadMax) (checkOf t) h
+prepared-spares : (t : Table) (received padded : ℕ) (f : DecodeRefusal) → preparedOf t received padded ≡ prepared.Refused f → Spares f
+prepared-spares t received padded f h = go (ltb payloadMax received) (eqb padded payloadMax) (checkOf t) h
   where
     go : (a b : Bool) (c : Checked)
-        → pick a (prepared.Refused (WrongLength (bytes received))) (pick b (byCheck c) (prepared.Refused (WrongLength (bytes padded)))) ≡ prepared.Refused f → Gives f
-    go true b c e = let k : WrongLength (bytes received) ≡ f = cc in subst Gives k refl
-    go false false c e = let k : WrongLength (bytes padded) ≡ f = cc in subst Gives k refl
+        → pick a (prepared.Refused (WrongLength (bytes received))) (pick b (byCheck c) (prepared.Refused (WrongLength (bytes padded)))) ≡ prepared.Refused f → Spares f
+    go true b c e = let k : WrongLength (bytes received) ≡ f = cc in subst Spares k refl
+    go false false c e = let k : WrongLength (bytes padded) ≡ f = cc in subst Spares k refl
     go false true checked.Accepted e = let k : _≡_ {A = ℕ} 0 1 = cc in absurd (omega arith)
-    go false true (checked.Refused rule index) e = let k : TableRefused rule index ≡ f = cc in subst Gives k refl
+    go false true (checked.Refused rule index) e = let k : TableRefused rule index ≡ f = cc in subst Spares k refl
+
+or-true : (b : Bool) → b || true ≡ true
+or-true true = refl
+or-true false = refl
 
 module _ (t : Table) (received padded : List ℕ) (room : ℕ) (f : DecodeRefusal) (n : ℕ) where
   abbrev working : Payload
@@ -112,10 +132,28 @@ module _ (t : Table) (received padded : List ℕ) (room : ℕ) (f : DecodeRefusa
       let k : x ≡ f = cc in
       walk-gives t (readied t (length received) (length padded) q .table) working (working-le t received padded q) room vs f (w ∙ ap (stopped vs) k)
 
-  by-prepared : (q : Prepared) → preparedOf t (length received) (length padded) ≡ q → decodedIn q t working room ≡ decoded.Refused f n → Gives f
-  by-prepared prepared.Ready q e = by-run q (walkOf t working room) refl e
-  by-prepared (prepared.Refused x) q e = let k : x ≡ f = cc in prepared-gives t (length received) (length padded) f (q ∙ ap prepared.Refused k)
+  by-prepared : (q : Prepared) → preparedOf t (length received) (length padded) ≡ q → decodedIn q t working room ≡ decoded.Refused f n → Gives f ⊎ (q ≡ prepared.Refused f)
+  by-prepared prepared.Ready q e = inl (by-run q (walkOf t working room) refl e)
+  by-prepared (prepared.Refused x) q e = let k : x ≡ f = cc in inr (ap prepared.Refused k)
 
-  -- any table, payload, padding run and room: the refusal of a decode has one of its numbers
-  pub decode-gives : decodedOf t received (length padded) room ≡ decoded.Refused f n → givenByDecode (numberOf f) ≡ true
-  decode-gives h = by-prepared (preparedOf t (length received) (length padded)) refl h
+  module _ (h : decodedOf t received (length padded) room ≡ decoded.Refused f n) where
+    -- the walk gave it, or it was given before
+    gave : Gives f ⊎ (preparedOf t (length received) (length padded) ≡ prepared.Refused f)
+    gave = by-prepared (preparedOf t (length received) (length padded)) refl h
+
+    spared : preparedOf t (length received) (length padded) ≡ prepared.Refused f → Spares f
+    spared q = prepared-spares t (length received) (length padded) f q
+
+    -- any table, payload, padding run and room: the refusal of a decode has one of its numbers
+    pub decode-gives : givenByDecode (numberOf f) ≡ true
+    decode-gives =
+        ⊎-elim (λ g. ap (λ (b : Bool). b || touchesNothing (numberOf f)) g)
+        (λ q. ap (λ (b : Bool). givenInWalk (numberOf f) || b) (spared q) ∙ or-true (givenInWalk (numberOf f))) gave
+
+    -- one that touches no buffer was given before the walk ..
+    pub before-walk : touchesNothing (numberOf f) ≡ true → preparedOf t (length received) (length padded) ≡ prepared.Refused f
+    before-walk z = ⊎-elim (λ g. absurd (apart (numberOf f) g z)) (λ q. q) gave
+
+    -- .. and any other by it
+    pub in-walk : touchesNothing (numberOf f) ≡ false → givenInWalk (numberOf f) ≡ true
+    in-walk z = ⊎-elim (λ g. g) (λ q. absurd (false≢true (sym z ∙ spared q))) gave

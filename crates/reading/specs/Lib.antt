@@ -1,3 +1,4 @@
+pub mod Contracts
 pub mod Groups
 pub mod Filling
 pub mod Decode

@@ -4,7 +4,8 @@ ghost use mathlib.Core.List.{_++_};
 ghost use Prim.Native.Nat.{_-_, _≤_};
 ghost use lib.ListN.{length, take, drop, replicate, getD};
 ghost use Rattle.tables.specs.Table.{tableOf};
-ghost use Rattle.reading.specs.Filling.{fills, pickedOf, preparedOf, runAfter};
+ghost use Rattle.reading.specs.Filling.{fills, pickedOf, preparedOf};
+ghost use Rattle.reading.specs.Contracts.{Prepares};
 use crate::Prepared;
 use bits::ByteCount;
 use bits::least;
@@ -71,7 +72,7 @@ fn prepared(words: &[u64], received: usize, padded: usize) -> Prepared
 
 // Refusal 7 or 8, or nothing; then the padding run is filled if the table asks for it.
 pub fn prepare(words: &[u64], received: &[u8], padded: &mut [u8]) -> Prepared
-    ensures { λ r. ⌜ (r ≡ preparedOf (tableOf (now (words .entry))) (length (now (received .entry))) (length (now (padded .entry)))) × (now (padded .exit) ≡ runAfter (tableOf (now (words .entry))) (now (received .entry)) (now (padded .entry))) ⌝ }
+    ensures { λ r. ⌜ Prepares r (now (padded .exit)) (now (words .entry)) (now (received .entry)) (now (padded .entry)) ⌝ }
 {
     match prepared(words, received.len(), padded.len()) {
         Prepared::Ready => {

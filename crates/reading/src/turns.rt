@@ -3,14 +3,12 @@ ghost use mathlib.Core.Path.{_≡_};
 ghost use Prim.Native.Nat.{_≤_, _<_};
 ghost use Rattle.tables.specs.Table.{tableOf};
 ghost use Rattle.walking.specs.declared.Place.the-variants as place;
-ghost use Rattle.walking.specs.Walk.{placeOf};
-ghost use Rattle.walking.specs.Turns.{seen as seenOf, turnBy, turnWithin, ended as endedAt};
 ghost use Rattle.fields.specs.Payload.{payloadOf};
 ghost use Rattle.fields.specs.Shapes.{shapeOf};
 ghost use Rattle.fields.specs.Content.{rawIn, valueIn};
-ghost use Rattle.reading.specs.Groups.{tooMany};
-ghost use Rattle.reading.specs.Decode.{oneOf, countOf, readingOf};
-ghost use Rattle.reading.specs.Steps.{nextTo, shown, nextOf, startOf, cameTo};
+ghost use Rattle.reading.specs.Decode.{readingOf};
+ghost use Rattle.reading.specs.Steps.{nextTo, nextOf, startOf, cameTo};
+ghost use Rattle.reading.specs.Contracts.{seenBy, turnedBy, fieldBy, withinBy};
 use crate::Answer;
 use crate::Came;
 use crate::Decoded;
@@ -89,7 +87,7 @@ fn see(
     to: Spot,
     here: Spot,
 ) -> Next
-    ensures { λ r. ⌜ r ≡ shown (tableOf (now (words .entry))) (payloadOf (now (s .entry))) here (seenOf to p (oneOf (tableOf (now (words .entry))) (payloadOf (now (s .entry))) room i e last p)) ⌝ }
+    ensures { λ r. ⌜ r ≡ seenBy (now (words .entry)) (now (s .entry)) room i e last p to here ⌝ }
 {
     let at = p.at;
     let made = p.made;
@@ -137,7 +135,7 @@ fn see(
 
 // Into set k, if it has not too many elements.
 fn enter(words: &[u64], s: &[u8], room: usize, k: usize, p: Progress, here: Spot) -> Next
-    ensures { λ r. ⌜ r ≡ shown (tableOf (now (words .entry))) (payloadOf (now (s .entry))) here (turnBy (tableOf (now (words .entry))) (oneOf (tableOf (now (words .entry))) (payloadOf (now (s .entry))) room) (countOf (tableOf (now (words .entry))) (payloadOf (now (s .entry)))) tooMany 0 (place.Starts k) p) ⌝ }
+    ensures { λ r. ⌜ r ≡ turnedBy (now (words .entry)) (now (s .entry)) room 0 (place.Starts k) p here ⌝ }
 {
     let at = p.at;
     let cs = p.counters;
@@ -161,7 +159,7 @@ fn enter(words: &[u64], s: &[u8], room: usize, k: usize, p: Progress, here: Spot
 // Field i, wherever it stands.
 fn at_field(words: &[u64], s: &[u8], room: usize, i: usize, p: Progress, here: Spot) -> Next
     requires { ⌜ i < 65536 ⌝ }
-    ensures { λ r. ⌜ r ≡ shown (tableOf (now (words .entry))) (payloadOf (now (s .entry))) here (turnBy (tableOf (now (words .entry))) (oneOf (tableOf (now (words .entry))) (payloadOf (now (s .entry))) room) (countOf (tableOf (now (words .entry))) (payloadOf (now (s .entry)))) tooMany i (placeOf (tableOf (now (words .entry))) i) p) ⌝ }
+    ensures { λ r. ⌜ r ≡ fieldBy (now (words .entry)) (now (s .entry)) room i p here ⌝ }
 {
     let to = Spot::Field(i + 1);
     match walking::place_at(words, i) {
@@ -186,7 +184,7 @@ fn within(
     p: Progress,
     here: Spot,
 ) -> Next
-    ensures { λ r. ⌜ r ≡ shown (tableOf (now (words .entry))) (payloadOf (now (s .entry))) here (turnWithin (tableOf (now (words .entry))) (oneOf (tableOf (now (words .entry))) (payloadOf (now (s .entry))) room) (countOf (tableOf (now (words .entry))) (payloadOf (now (s .entry)))) tooMany k n e j p) ⌝ }
+    ensures { λ r. ⌜ r ≡ withinBy (now (words .entry)) (now (s .entry)) room k n e j p here ⌝ }
 {
     let set = tables::set_at(words, k);
     let start = set.start;

@@ -15,8 +15,6 @@ use Rattle.fields.specs.declared.DecodeRefusal.the-variants.{WrongLength}
 use Rattle.reading.specs.declared.Prepared.{Prepared}
 use Rattle.reading.specs.declared.Prepared.the-variants.{Ready, Refused}
 use Rattle.reading.specs.Filling.{workingOf, byCheck, preparedOf}
-use Rattle.messages.specs.Tables.{words129025, words129026, words129029, words130900}
-use Rattle.records.specs.Pgn.{ofBuiltIn}
 
 module _ (t : Table) (received padded : ℕ) where
   abbrev later : Prepared
@@ -42,17 +40,3 @@ pub working-kept : (t : Table) (received : List ℕ) → t .minimum ≡ 0 → re
 working-kept t received h =
     sym (ap (λ (b : Bool). pick b (received ++ replicate (t .length - length received) 0xff) received)
     (ap (λ (m : ℕ). leb 1 m && (leb m (length received) && ltb (length received) (t .length))) h))
-
-module _ {A : Type 0} (pgn : ℕ) (f : List ℕ → A) (none : A) where
-  pub known-as : (k : ℕ) → pgn ≡ k → ofBuiltIn k f none ≡ ofBuiltIn pgn f none
-  known-as k h = ap (λ (x : ℕ). ofBuiltIn x f none) (sym h)
-
-  no-pick : (k : ℕ) (x y : A) → (pgn ≡ k → ⊥) → y ≡ pick (eqb pgn k) x y
-  no-pick k x y h = sym (ap (λ (b : Bool). pick b x y) (ne-eqb _ _ h))
-
-  pub unknown : (pgn ≡ 129025 → ⊥) → (pgn ≡ 129026 → ⊥) → (pgn ≡ 129029 → ⊥) → (pgn ≡ 130900 → ⊥) → none ≡ ofBuiltIn pgn f none
-  unknown a b c d =
-      no-pick 130900 (f words130900) none d
-      ∙ no-pick 129029 (f words129029) (pick (eqb pgn 130900) (f words130900) none) c
-      ∙ no-pick 129026 (f words129026) (pick (eqb pgn 129029) (f words129029) (pick (eqb pgn 130900) (f words130900) none)) b
-      ∙ no-pick 129025 (f words129025) (pick (eqb pgn 129026) (f words129026) (pick (eqb pgn 129029) (f words129029) (pick (eqb pgn 130900) (f words130900) none))) a

@@ -16,5 +16,7 @@ pub mod Storing
 pub mod Counting
 -- a built-in table is accepted and fills nothing
 pub mod Known
+-- a refusal that touches nothing leaves the padding run and the buffer as they were
+pub mod Untouched
 -- every contract leaves one answer and one content of each lent buffer
 pub mod OneAnswer

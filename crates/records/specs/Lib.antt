@@ -1,3 +1,4 @@
+pub mod Contracts
 pub mod Layout
 pub mod Into
 pub mod Pgn

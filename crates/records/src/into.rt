@@ -1,15 +1,11 @@
 // A payload into records, by a table.
 ghost use mathlib.Core.Path.{_≡_};
-ghost use lib.ListN.{length};
 ghost use Rattle.tables.specs.Table.{tableOf};
 ghost use Rattle.tables.specs.Check.{checkOf};
 ghost use Rattle.tables.specs.declared.Checked.the-variants as checked;
-ghost use Rattle.fields.specs.Payload.{payloadOf};
-ghost use Rattle.reading.specs.Filling.{runAfter};
-ghost use Rattle.reading.specs.Decode.{walkOf, readings as readingsIn, spansOf, endOf};
-ghost use Rattle.records.specs.Layout.{roomIn, storedIn};
-ghost use Rattle.records.specs.Into.{decodedInto, outAfter};
+ghost use Rattle.records.specs.Layout.{roomIn};
 ghost use Rattle.records.specs.Stretches.{countIn, counted};
+ghost use Rattle.records.specs.Contracts.{Walks, DecodesInto};
 use crate::layout::put_word;
 use crate::walks;
 use reading::Decoded;
@@ -47,7 +43,7 @@ fn put_count(out: &mut [u8], n: usize)
 // The walk through the working payload s, by an accepted table, with its count.
 pub(crate) fn walked(words: &[u64], s: &[u8], out: &mut [u8]) -> Decoded
     requires { ⌜ checkOf (tableOf (now words)) ≡ checked.Accepted ⌝ }
-    ensures { λ r. ⌜ (r ≡ endOf (tableOf (now (words .entry))) (payloadOf (now (s .entry))) (walkOf (tableOf (now (words .entry))) (payloadOf (now (s .entry))) (roomIn (length (now (out .entry)))))) × (now (out .exit) ≡ storedIn (readingsIn (tableOf (now (words .entry))) (payloadOf (now (s .entry))) (spansOf (walkOf (tableOf (now (words .entry))) (payloadOf (now (s .entry))) (roomIn (length (now (out .entry))))))) (now (out .entry))) ⌝ }
+    ensures { λ r. ⌜ Walks r (now (out .exit)) (now (words .entry)) (now (s .entry)) (now (out .entry)) ⌝ }
 {
     let room = room_in(out.len());
     let decoded = walks::store(words, s, room, out);
@@ -57,7 +53,7 @@ pub(crate) fn walked(words: &[u64], s: &[u8], out: &mut [u8]) -> Decoded
 
 // Every field of a received payload, by a table, into records. The padding run is of 223 bytes.
 pub fn decode_into(words: &[u64], received: &[u8], padded: &mut [u8], out: &mut [u8]) -> Decoded
-    ensures { λ r. ⌜ (r ≡ decodedInto (tableOf (now (words .entry))) (now (received .entry)) (length (now (padded .entry))) (length (now (out .entry)))) × ((now (padded .exit) ≡ runAfter (tableOf (now (words .entry))) (now (received .entry)) (now (padded .entry))) × (now (out .exit) ≡ outAfter (tableOf (now (words .entry))) (now (received .entry)) (length (now (padded .entry))) (now (out .entry)))) ⌝ }
+    ensures { λ r. ⌜ DecodesInto r (now (padded .exit)) (now (out .exit)) (now (words .entry)) (now (received .entry)) (now (padded .entry)) (now (out .entry)) ⌝ }
 {
     match reading::prepare(words, received, padded) {
         Prepared::Ready => {

@@ -6,9 +6,10 @@ ghost use Rattle.tables.specs.Check.{checkOf};
 ghost use Rattle.tables.specs.declared.Checked.the-variants as checked;
 ghost use Rattle.walking.specs.declared.Spot.the-variants as spot;
 ghost use Rattle.fields.specs.Payload.{payloadOf};
-ghost use Rattle.reading.specs.Decode.{walkOf, spansOf, readings as readingsIn, endOf, progressAt};
-ghost use Rattle.reading.specs.Steps.{walkAt, nextOf, handed};
-ghost use Rattle.records.specs.Stretches.{Plains, Roomy, stored, Leads, LeadsIn};
+ghost use Rattle.reading.specs.Decode.{progressAt};
+ghost use Rattle.reading.specs.Steps.{walkAt};
+ghost use Rattle.records.specs.Stretches.{Plains, Roomy, Leads, LeadsIn};
+ghost use Rattle.records.specs.Contracts.{Turns, Stores};
 use crate::Stretch;
 use crate::readings;
 use crate::runs;
@@ -199,7 +200,7 @@ fn quickly(words: &[u64], s: &[u8], room: usize, walk: Walk, out: &mut [u8]) -> 
 // One turn, with its reading stored.
 fn turn(words: &[u64], s: &[u8], room: usize, walk: Walk, out: &mut [u8]) -> Next
     requires { ⌜ Roomy room (now out) ⌝ }
-    ensures { λ r. ⌜ (r ≡ nextOf (tableOf (now (words .entry))) (payloadOf (now (s .entry))) room walk) × (now (out .exit) ≡ stored (now (out .entry)) (walk .progress .made) (handed (r .answer))) ⌝ }
+    ensures { λ r. ⌜ Turns r (now (out .exit)) (now (words .entry)) (now (s .entry)) room walk (now (out .entry)) ⌝ }
 {
     let p = walk.progress;
     let made = p.made;
@@ -220,7 +221,7 @@ fn turn(words: &[u64], s: &[u8], room: usize, walk: Walk, out: &mut [u8]) -> Nex
 // The walk through the working payload s, by an accepted table.
 pub(crate) fn store(words: &[u64], s: &[u8], room: usize, out: &mut [u8]) -> Decoded
     requires { ⌜ (checkOf (tableOf (now words)) ≡ checked.Accepted) × Roomy room (now out) ⌝ }
-    ensures { λ r. ⌜ (r ≡ endOf (tableOf (now (words .entry))) (payloadOf (now (s .entry))) (walkOf (tableOf (now (words .entry))) (payloadOf (now (s .entry))) room)) × (now (out .exit) ≡ stored (now (out .entry)) 0 (readingsIn (tableOf (now (words .entry))) (payloadOf (now (s .entry))) (spansOf (walkOf (tableOf (now (words .entry))) (payloadOf (now (s .entry))) room)))) ⌝ }
+    ensures { λ r. ⌜ Stores r (now (out .exit)) (now (words .entry)) (now (s .entry)) room (now (out .entry)) ⌝ }
 {
     let mut walk = reading::start();
     loop {

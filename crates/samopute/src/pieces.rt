@@ -7,9 +7,9 @@ ghost use Rattle.samopute.specs.Bounds.{Within};
 use crate::At;
 use frames::Frame;
 use frames::Line;
-use frames::Message;
 use libc::STDIN_FILENO;
 use libc::STDOUT_FILENO;
+use messages::Message;
 
 // More answers than this are written at once: else there is room for the first lines of one more.
 const OUT_FULL: usize = 63488;

@@ -12,12 +12,13 @@ use Rattle.bits.specs.Bits.{pick}
 use Rattle.bits.specs.declared.BitRefusal.the-variants.{BufferTooLong, TooLongForType, NonAlignedBit, OutOfBits, OutOfBytes}
 use Rattle.tables.specs.Table.{Table}
 use Rattle.fields.specs.declared.DecodeRefusal.the-variants.{BitReaderError, InvalidDataLength, RepetitionsExceedCapacity, WrongLength, TableRefused, NoRoom}
+use Rattle.fields.specs.Refusals.{touchesNothing}
 use Rattle.fields.proofs.Filled.{length-full}
 use Rattle.reading.specs.declared.Decoded.{Decoded}
 use Rattle.reading.specs.declared.Decoded.the-variants.{Ended, Refused}
 use Rattle.reading.specs.Filling.{fills, workingOf}
 use Rattle.reading.proofs.Working.{filled-lt}
-use Rattle.samopute_c.specs.Decodes.{decodedStatus, decodedCells, filledBy, cellsOf, lengthBy}
+use Rattle.samopute_c.specs.Decodes.{decodedStatus, decodedCells, cellsOf, lengthBy}
 
 -- ## The length of the working payload
 
@@ -33,13 +34,12 @@ module _ (t : Table) (received : List ℕ) where
       rw (h, ne-eqb (t .length) 0 (λ z. omega arith)) (sym (length-full received (t .length) (le-of-lt l)))
   by false h = rw h
 
-  -- of a call that neither 7 nor 8 refused, the second cell, or the bytes received where it is 0
-  pub working-length : (d : Decoded) → (decodedStatus d ≡ 7 → ⊥) → (decodedStatus d ≡ 8 → ⊥)
+  -- of a call that no refusal spared the buffers, neither 7 nor 8, the second cell, or the bytes received where it is 0
+  pub working-length : (d : Decoded) → touchesNothing (decodedStatus d) ≡ false
       → lengthBy (getD (cellsOf t (length received) d) 1 0) (length received) ≡ length (workingOf t received)
-  working-length d n7 n8 =
-      let kept : filledBy (decodedStatus d) (fills t (length received)) (t .length) ≡ pick (fills t (length received)) (t .length) 0 =
-      rw (ne-eqb (decodedStatus d) 7 n7, ne-eqb (decodedStatus d) 8 n8) in
-      ap (λ (x : ℕ). lengthBy x (length received)) (second _ d ∙ kept) ∙ by (fills t (length received)) refl
+  working-length d n =
+      let filled = pick (fills t (length received)) (t .length) 0 in
+      ap (λ (x : ℕ). lengthBy x (length received)) (second _ d ∙ ap (λ (b : Bool). pick b 0 filled) n) ∙ by (fills t (length received)) refl
 
 -- ## What refusal 2 counts
 

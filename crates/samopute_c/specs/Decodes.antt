@@ -6,7 +6,7 @@ use lib.Dec.{eqb}
 use lib.ListN.{getD}
 use Rattle.bits.specs.Bits.{pick}
 use Rattle.tables.specs.Table.{Table}
-use Rattle.fields.specs.Refusals.{numberOf, carriedOf, unitOf}
+use Rattle.fields.specs.Refusals.{numberOf, touchesNothing, carriedOf, unitOf}
 use Rattle.reading.specs.declared.Decoded.{Decoded}
 use Rattle.reading.specs.declared.Decoded.the-variants.{Ended, Refused}
 use Rattle.reading.specs.Filling.{fills}
@@ -24,9 +24,9 @@ abbrev pub decodedCells : ℕ → Decoded → List ℕ
 decodedCells filled (Ended end count) = count ∷ filled ∷ end .0 ∷ 0 ∷ 0 ∷ 0 ∷ []
 decodedCells filled (Refused e count) = count ∷ filled ∷ getD (carriedOf e) 0 0 ∷ getD (carriedOf e) 1 0 ∷ getD (carriedOf e) 2 0 ∷ unitOf e ∷ []
 
--- the length that the padding run is filled to, the table's; 0 where it is not filled: 7 and 8 fill nothing
+-- the length that the padding run is filled to, the table's; 0 where it is not filled: a refusal that touches no buffer fills nothing
 abbrev pub filledBy : ℕ → Bool → ℕ → ℕ
-filledBy status filled to = pick (eqb status 7) 0 (pick (eqb status 8) 0 (pick filled to 0))
+filledBy status filled to = pick (touchesNothing status) 0 (pick filled to 0)
 
 -- a decode by the table t of so many bytes received
 abbrev pub cellsOf : Table → ℕ → Decoded → List ℕ

@@ -1,12 +1,8 @@
 // Decoding: the readings go into a lent buffer as records, laid out as specs/Layout.antt of `records`
 // says.
 ghost use mathlib.Core.Path.{_≡_};
-ghost use lib.ListN.{length};
-ghost use Rattle.tables.specs.Table.{tableOf};
-ghost use Rattle.reading.specs.Filling.{runAfter};
-ghost use Rattle.records.specs.Into.{decodedInto, outAfter};
-ghost use Rattle.records.specs.Pgn.{byPgnOf, outByPgn};
-ghost use Rattle.samopute_c.specs.Decodes.{decodedStatus, decodedCells, filledBy, cellsOf, pgnStatus, pgnCells, versionOf};
+ghost use Rattle.samopute_c.specs.Decodes.{decodedStatus, decodedCells, filledBy, versionOf};
+ghost use Rattle.samopute_c.specs.Contracts.{Tells, Decodes, DecodesPgn};
 use reading::Decoded;
 use records::ByPgn;
 
@@ -24,10 +20,7 @@ fn status_of(decoded: Decoded) -> u32
 fn filled_by(status: u32, filled: bool, to: usize) -> u64
     ensures { λ r. ⌜ r ≡ filledBy status filled to ⌝ }
 {
-    if status == 7 {
-        return 0;
-    }
-    if status == 8 {
+    if fields::touches_nothing(status) {
         return 0;
     }
     if filled { to as u64 } else { 0 }
@@ -61,7 +54,7 @@ fn tell_decoded(answer: &mut [u64; 6], filled: u64, decoded: Decoded)
 
 // The status of a decode of so many bytes, and its answer laid out.
 pub fn told(words: &[u64], received: usize, decoded: Decoded, answer: &mut [u64; 6]) -> u32
-    ensures { λ r. ⌜ (r ≡ decodedStatus decoded) × (now (answer .exit) ≡ cellsOf (tableOf (now (words .entry))) received decoded) ⌝ }
+    ensures { λ r. ⌜ Tells r (now (answer .exit)) (now (words .entry)) received decoded ⌝ }
 {
     let status = status_of(decoded);
     let is_filled = reading::is_filled(words, received);
@@ -82,7 +75,7 @@ pub extern "C" fn samopute_decode(
     readings: &mut [u8],
     answer: &mut [u64; 6],
 ) -> u32
-    ensures { λ r. ⌜ (r ≡ decodedStatus (decodedInto (tableOf (now (words .entry))) (now (payload .entry)) (length (now (padding .entry))) (length (now (readings .entry))))) × ((now (padding .exit) ≡ runAfter (tableOf (now (words .entry))) (now (payload .entry)) (now (padding .entry))) × ((now (readings .exit) ≡ outAfter (tableOf (now (words .entry))) (now (payload .entry)) (length (now (padding .entry))) (now (readings .entry))) × (now (answer .exit) ≡ cellsOf (tableOf (now (words .entry))) (length (now (payload .entry))) (decodedInto (tableOf (now (words .entry))) (now (payload .entry)) (length (now (padding .entry))) (length (now (readings .entry))))))) ⌝ }
+    ensures { λ r. ⌜ Decodes r (now (padding .exit)) (now (readings .exit)) (now (answer .exit)) (now (words .entry)) (now (payload .entry)) (now (padding .entry)) (now (readings .entry)) ⌝ }
 {
     let decoded = records::decode_into(words, payload, padding, readings);
     told(words, payload.len(), decoded, answer)
@@ -98,7 +91,7 @@ pub extern "C" fn samopute_decode_pgn(
     readings: &mut [u8],
     answer: &mut [u64; 6],
 ) -> u32
-    ensures { λ r. ⌜ (r ≡ pgnStatus (byPgnOf pgn (now (payload .entry)) (length (now (padding .entry))) (length (now (readings .entry))))) × ((now (padding .exit) ≡ now (padding .entry)) × ((now (readings .exit) ≡ outByPgn pgn (now (payload .entry)) (length (now (padding .entry))) (now (readings .entry))) × (now (answer .exit) ≡ pgnCells pgn (byPgnOf pgn (now (payload .entry)) (length (now (padding .entry))) (length (now (readings .entry))))))) ⌝ }
+    ensures { λ r. ⌜ DecodesPgn r (now (padding .exit)) (now (readings .exit)) (now (answer .exit)) pgn (now (payload .entry)) (now (padding .entry)) (now (readings .entry)) ⌝ }
 {
     match records::decode_pgn_into(pgn, payload, padding, readings) {
         ByPgn::Known(decoded) => {

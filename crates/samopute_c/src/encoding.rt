@@ -1,9 +1,10 @@
 // Encoding: the values come in lent bytes as records, laid out as specs/Records.antt of `offers` says.
 ghost use mathlib.Core.Path.{_≡_};
-ghost use lib.ListN.{length};
-ghost use Rattle.tables.specs.Table.{tableOf};
-ghost use Rattle.samopute_c.specs.Encodes.{encodedStatus, encodedCells, encodedBy, payloadAfter, statusByPgn, payloadByPgn, cellsByPgn};
-use weighing::EncodeRefusal;
+ghost use Rattle.messages.specs.Messages.{wordsOf};
+ghost use Rattle.samopute_c.specs.Encodes.{encodedStatus, encodedCells};
+ghost use Rattle.samopute_c.specs.Contracts.{Encodes, EncodesPgn};
+use messages::Known;
+use messages::Message;
 use writing::Encoded;
 
 // Lays out an encode's answer: its status is 0, or the refusal's number.
@@ -37,10 +38,28 @@ pub extern "C" fn samopute_encode(
     payload: &mut [u8],
     answer: &mut [u64; 4],
 ) -> u32
-    ensures { λ r. ⌜ (r ≡ encodedStatus (encodedBy (tableOf (now (words .entry))) (now (values .entry)) (length (now (text .entry))) (length (now (payload .entry))))) × ((now (payload .exit) ≡ payloadAfter (tableOf (now (words .entry))) (now (values .entry)) (now (text .entry)) (now (payload .entry))) × (now (answer .exit) ≡ encodedCells (encodedBy (tableOf (now (words .entry))) (now (values .entry)) (length (now (text .entry))) (length (now (payload .entry)))))) ⌝ }
+    ensures { λ r. ⌜ Encodes r (now (payload .exit)) (now (answer .exit)) (now (words .entry)) (now (values .entry)) (now (text .entry)) (now (payload .entry)) ⌝ }
 {
     let encoded = writing::encode(words, values, text, payload);
     tell_encoded(answer, encoded)
+}
+
+// The same by the table of a message.
+fn by_message(
+    message: Message,
+    values: &[u8],
+    text: &[u8],
+    payload: &mut [u8],
+    answer: &mut [u64; 4],
+) -> u32
+    ensures { λ r. ⌜ Encodes r (now (payload .exit)) (now (answer .exit)) (wordsOf message) (now (values .entry)) (now (text .entry)) (now (payload .entry)) ⌝ }
+{
+    match message {
+        Message::M129025 => samopute_encode(&messages::TABLE_129025, values, text, payload, answer),
+        Message::M129026 => samopute_encode(&messages::TABLE_129026, values, text, payload, answer),
+        Message::M129029 => samopute_encode(&messages::TABLE_129029, values, text, payload, answer),
+        Message::M130900 => samopute_encode(&messages::TABLE_130900, values, text, payload, answer),
+    }
 }
 
 // The same by the table that is built in for a PGN; 15 if there is none.
@@ -52,20 +71,13 @@ pub extern "C" fn samopute_encode_pgn(
     payload: &mut [u8],
     answer: &mut [u64; 4],
 ) -> u32
-    ensures { λ r. ⌜ (r ≡ statusByPgn pgn (now (values .entry)) (length (now (text .entry))) (length (now (payload .entry)))) × ((now (payload .exit) ≡ payloadByPgn pgn (now (values .entry)) (now (text .entry)) (now (payload .entry))) × (now (answer .exit) ≡ cellsByPgn pgn (now (values .entry)) (length (now (text .entry))) (length (now (payload .entry))))) ⌝ }
+    ensures { λ r. ⌜ EncodesPgn r (now (payload .exit)) (now (answer .exit)) pgn (now (values .entry)) (now (text .entry)) (now (payload .entry)) ⌝ }
 {
-    if pgn == 129025 {
-        return samopute_encode(&messages::TABLE_129025, values, text, payload, answer);
+    match messages::message_of(pgn) {
+        Known::Message(message) => by_message(message, values, text, payload, answer),
+        Known::Unknown => {
+            *answer = [0, pgn as u64, 0, 0];
+            15
+        }
     }
-    if pgn == 129026 {
-        return samopute_encode(&messages::TABLE_129026, values, text, payload, answer);
-    }
-    if pgn == 129029 {
-        return samopute_encode(&messages::TABLE_129029, values, text, payload, answer);
-    }
-    if pgn == 130900 {
-        return samopute_encode(&messages::TABLE_130900, values, text, payload, answer);
-    }
-    *answer = [0, pgn as u64, 0, 0];
-    15
 }

@@ -1,8 +1,9 @@
 // The calls that write. A refused one leaves the buffer as it was.
 ghost use mathlib.Core.Path.{_≡_};
 ghost use lib.ListN.{length};
-ghost use Rattle.bits.specs.Calls.{cursorAt, advanceOf, writtenOf, writeSliceOf, slicedOf};
+ghost use Rattle.bits.specs.Calls.{cursorAt, advanceOf};
 ghost use Rattle.samopute_c.specs.Answers.{Laid, ofMoved};
+ghost use Rattle.samopute_c.specs.Contracts.{Writes, WritesSlice};
 use crate::tell_moved;
 use bits::BitPos;
 use bits::Cursor;
@@ -15,7 +16,7 @@ pub extern "C" fn samopute_write_u64(
     width: u32,
     answer: &mut [u64; 3],
 ) -> u32
-    ensures { λ r. ⌜ Laid r (now (answer .exit)) cursor (ofMoved (advanceOf (length (now (buffer .entry))) (cursorAt cursor) width 64)) × (now (buffer .exit) ≡ writtenOf (now (buffer .entry)) (cursorAt cursor) width 64 value) ⌝ }
+    ensures { λ r. ⌜ Writes r (now (buffer .exit)) (now (answer .exit)) 64 (now (buffer .entry)) cursor value width ⌝ }
 {
     let from = Cursor { at: BitPos(cursor) };
     let m = from.write_u64(buffer, value, width);
@@ -30,7 +31,7 @@ pub extern "C" fn samopute_write_u32(
     width: u32,
     answer: &mut [u64; 3],
 ) -> u32
-    ensures { λ r. ⌜ Laid r (now (answer .exit)) cursor (ofMoved (advanceOf (length (now (buffer .entry))) (cursorAt cursor) width 32)) × (now (buffer .exit) ≡ writtenOf (now (buffer .entry)) (cursorAt cursor) width 32 value) ⌝ }
+    ensures { λ r. ⌜ Writes r (now (buffer .exit)) (now (answer .exit)) 32 (now (buffer .entry)) cursor value width ⌝ }
 {
     let from = Cursor { at: BitPos(cursor) };
     let m = from.write_u32(buffer, value, width);
@@ -45,7 +46,7 @@ pub extern "C" fn samopute_write_u16(
     width: u32,
     answer: &mut [u64; 3],
 ) -> u32
-    ensures { λ r. ⌜ Laid r (now (answer .exit)) cursor (ofMoved (advanceOf (length (now (buffer .entry))) (cursorAt cursor) width 16)) × (now (buffer .exit) ≡ writtenOf (now (buffer .entry)) (cursorAt cursor) width 16 value) ⌝ }
+    ensures { λ r. ⌜ Writes r (now (buffer .exit)) (now (answer .exit)) 16 (now (buffer .entry)) cursor value width ⌝ }
 {
     let from = Cursor { at: BitPos(cursor) };
     let m = from.write_u16(buffer, value, width);
@@ -60,7 +61,7 @@ pub extern "C" fn samopute_write_u8(
     width: u32,
     answer: &mut [u64; 3],
 ) -> u32
-    ensures { λ r. ⌜ Laid r (now (answer .exit)) cursor (ofMoved (advanceOf (length (now (buffer .entry))) (cursorAt cursor) width 8)) × (now (buffer .exit) ≡ writtenOf (now (buffer .entry)) (cursorAt cursor) width 8 value) ⌝ }
+    ensures { λ r. ⌜ Writes r (now (buffer .exit)) (now (answer .exit)) 8 (now (buffer .entry)) cursor value width ⌝ }
 {
     let from = Cursor { at: BitPos(cursor) };
     let m = from.write_u8(buffer, value, width);
@@ -88,7 +89,7 @@ pub extern "C" fn samopute_write_slice(
     source: &[u8],
     answer: &mut [u64; 3],
 ) -> u32
-    ensures { λ r. ⌜ Laid r (now (answer .exit)) cursor (ofMoved (writeSliceOf (length (now (buffer .entry))) (cursorAt cursor) (length (now (source .entry))))) × (now (buffer .exit) ≡ slicedOf (now (buffer .entry)) (cursorAt cursor) (now (source .entry))) ⌝ }
+    ensures { λ r. ⌜ WritesSlice r (now (buffer .exit)) (now (answer .exit)) (now (buffer .entry)) cursor (now (source .entry)) ⌝ }
 {
     let from = Cursor { at: BitPos(cursor) };
     let m = from.write_slice(buffer, source);

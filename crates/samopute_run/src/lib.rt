@@ -6,13 +6,7 @@
 //
 // It is a library of its own, so that what it shares with `samopute_decode` is compiled into each by itself: in one library the other
 // call took a fifth longer.
-ghost use mathlib.Core.Path.{_≡_};
-ghost use lib.ListN.{length};
-ghost use Rattle.tables.specs.Table.{tableOf};
-ghost use Rattle.reading.specs.Filling.{runAfter};
-ghost use Rattle.reading.specs.Decode.{decodedOf};
-ghost use Rattle.structs.specs.Structs.{structsAfter};
-ghost use Rattle.samopute_c.specs.Decodes.{decodedStatus, cellsOf};
+ghost use Rattle.samopute_run.specs.Contracts.{DecodesRun};
 use structs::Record;
 
 // Decodes a payload by a table in words into an array of C structs, with room for as many readings as it has entries. The answer is
@@ -25,7 +19,7 @@ pub extern "C" fn samopute_decode_run(
     readings: &mut [Record],
     answer: &mut [u64; 6],
 ) -> u32
-    ensures { λ r. ⌜ (r ≡ decodedStatus (decodedOf (tableOf (now (words .entry))) (now (payload .entry)) (length (now (padding .entry))) (length (now (readings .entry))))) × ((now (padding .exit) ≡ runAfter (tableOf (now (words .entry))) (now (payload .entry)) (now (padding .entry))) × ((now (readings .exit) ≡ structsAfter (tableOf (now (words .entry))) (now (payload .entry)) (length (now (padding .entry))) (now (readings .entry))) × (now (answer .exit) ≡ cellsOf (tableOf (now (words .entry))) (length (now (payload .entry))) (decodedOf (tableOf (now (words .entry))) (now (payload .entry)) (length (now (padding .entry))) (length (now (readings .entry))))))) ⌝ }
+    ensures { λ r. ⌜ DecodesRun r (now (padding .exit)) (now (readings .exit)) (now (answer .exit)) (now (words .entry)) (now (payload .entry)) (now (padding .entry)) (now (readings .entry)) ⌝ }
 {
     let decoded = structs::decode_run(words, payload, padding, readings);
     samopute_c::told(words, payload.len(), decoded, answer)

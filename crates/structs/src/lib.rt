@@ -5,11 +5,8 @@
 // is as it was. On a machine that puts the low byte first, a struct's 64 bytes are those of its record in
 // `records`: proofs/Same.antt. No call has a `requires`.
 ghost use mathlib.Core.Path.{_≡_};
-ghost use lib.ListN.{length};
-ghost use Rattle.tables.specs.Table.{tableOf};
-ghost use Rattle.reading.specs.Filling.{runAfter};
-ghost use Rattle.reading.specs.Decode.{decodedOf};
-ghost use Rattle.structs.specs.Structs.{structOf, structsAfter};
+ghost use Rattle.structs.specs.Structs.{structOf};
+ghost use Rattle.structs.specs.Contracts.{DecodesRun};
 use lent_readings::Step;
 use reading::Decoded;
 
@@ -72,7 +69,7 @@ pub fn record_of(c: Step) -> Record
 // Every field of a received payload, by a table, into a run of structs: the end and the number of readings, or the
 // refusal. The padding run is of 223 bytes.
 pub fn decode_run(words: &[u64], received: &[u8], padded: &mut [u8], out: &mut [Record]) -> Decoded
-    ensures { λ r. ⌜ (r ≡ decodedOf (tableOf (now (words .entry))) (now (received .entry)) (length (now (padded .entry))) (length (now (out .entry)))) × ((now (padded .exit) ≡ runAfter (tableOf (now (words .entry))) (now (received .entry)) (now (padded .entry))) × (now (out .exit) ≡ structsAfter (tableOf (now (words .entry))) (now (received .entry)) (length (now (padded .entry))) (now (out .entry)))) ⌝ }
+    ensures { λ r. ⌜ DecodesRun r (now (padded .exit)) (now (out .exit)) (now (words .entry)) (now (received .entry)) (now (padded .entry)) (now (out .entry)) ⌝ }
 {
     let mut c = lent_readings::fresh();
     loop {

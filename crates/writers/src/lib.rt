@@ -4,9 +4,8 @@
 // is its `write_advance`. The writer keeps its slice, with the bytes that the call of `bits` leaves in it. Its cursor is
 // the moved one, or where it was if the call was refused. No call has a `requires`, and nothing is assumed.
 ghost use mathlib.Core.Path.{_≡_};
-ghost use lib.ListN.{length};
-ghost use Rattle.bits.specs.Calls.{cursorAt, advanceOf, writtenOf, writeSliceOf, slicedOf};
-ghost use Rattle.writers.specs.Writer.{wrote, afterMoved};
+ghost use Rattle.bits.specs.Calls.{cursorAt};
+ghost use Rattle.writers.specs.Contracts.{Writes, Advances, WritesSlice, FirstBits};
 use bits::BitPos;
 use bits::Cursor;
 use bits::Moved;
@@ -38,7 +37,7 @@ impl<'a> BitWriter<'a> {
 
     // The n low bits of a number.
     pub fn write_u64(&mut self, value: u64, n: u32) -> Moved
-        ensures { λ a. ⌜ (a ≡ advanceOf (length (now (now (self .entry) .dest))) (now (self .entry) .cursor) n 64) × (now (self .exit) ≡ wrote (now (self .entry)) (writtenOf (now (now (self .entry) .dest)) (now (self .entry) .cursor) n 64 value) (afterMoved a (now (self .entry) .cursor))) ⌝ }
+        ensures { λ a. ⌜ Writes a (now (self .exit)) (now (self .entry)) 64 value n ⌝ }
     {
         let c = self.cursor;
         let a = c.write_u64(&mut *self.dest, value, n);
@@ -47,7 +46,7 @@ impl<'a> BitWriter<'a> {
     }
 
     pub fn write_u32(&mut self, value: u32, n: u32) -> Moved
-        ensures { λ a. ⌜ (a ≡ advanceOf (length (now (now (self .entry) .dest))) (now (self .entry) .cursor) n 32) × (now (self .exit) ≡ wrote (now (self .entry)) (writtenOf (now (now (self .entry) .dest)) (now (self .entry) .cursor) n 32 value) (afterMoved a (now (self .entry) .cursor))) ⌝ }
+        ensures { λ a. ⌜ Writes a (now (self .exit)) (now (self .entry)) 32 value n ⌝ }
     {
         let c = self.cursor;
         let a = c.write_u32(&mut *self.dest, value, n);
@@ -56,7 +55,7 @@ impl<'a> BitWriter<'a> {
     }
 
     pub fn write_u16(&mut self, value: u16, n: u32) -> Moved
-        ensures { λ a. ⌜ (a ≡ advanceOf (length (now (now (self .entry) .dest))) (now (self .entry) .cursor) n 16) × (now (self .exit) ≡ wrote (now (self .entry)) (writtenOf (now (now (self .entry) .dest)) (now (self .entry) .cursor) n 16 value) (afterMoved a (now (self .entry) .cursor))) ⌝ }
+        ensures { λ a. ⌜ Writes a (now (self .exit)) (now (self .entry)) 16 value n ⌝ }
     {
         let c = self.cursor;
         let a = c.write_u16(&mut *self.dest, value, n);
@@ -65,7 +64,7 @@ impl<'a> BitWriter<'a> {
     }
 
     pub fn write_u8(&mut self, value: u8, n: u32) -> Moved
-        ensures { λ a. ⌜ (a ≡ advanceOf (length (now (now (self .entry) .dest))) (now (self .entry) .cursor) n 8) × (now (self .exit) ≡ wrote (now (self .entry)) (writtenOf (now (now (self .entry) .dest)) (now (self .entry) .cursor) n 8 value) (afterMoved a (now (self .entry) .cursor))) ⌝ }
+        ensures { λ a. ⌜ Writes a (now (self .exit)) (now (self .entry)) 8 value n ⌝ }
     {
         let c = self.cursor;
         let a = c.write_u8(&mut *self.dest, value, n);
@@ -75,7 +74,7 @@ impl<'a> BitWriter<'a> {
 
     // Past n bits, with the limits of a 64-bit write. They stay as they are.
     pub fn advance(&mut self, n: u32) -> Moved
-        ensures { λ a. ⌜ (a ≡ advanceOf (length (now (now (self .entry) .dest))) (now (self .entry) .cursor) n 64) × (now (self .exit) ≡ wrote (now (self .entry)) (now (now (self .entry) .dest)) (afterMoved a (now (self .entry) .cursor))) ⌝ }
+        ensures { λ a. ⌜ Advances a (now (self .exit)) (now (self .entry)) n ⌝ }
     {
         let c = self.cursor;
         let a = c.write_advance(&mut *self.dest, n);
@@ -85,7 +84,7 @@ impl<'a> BitWriter<'a> {
 
     // All of src, from the cursor on.
     pub fn write_slice(&mut self, src: &[u8]) -> Moved
-        ensures { λ a. ⌜ (a ≡ writeSliceOf (length (now (now (self .entry) .dest))) (now (self .entry) .cursor) (length (now (src .entry)))) × (now (self .exit) ≡ wrote (now (self .entry)) (slicedOf (now (now (self .entry) .dest)) (now (self .entry) .cursor) (now (src .entry))) (afterMoved a (now (self .entry) .cursor))) ⌝ }
+        ensures { λ a. ⌜ WritesSlice a (now (self .exit)) (now (self .entry)) (now (src .entry)) ⌝ }
     {
         let c = self.cursor;
         let a = c.write_slice(&mut *self.dest, src);
@@ -96,7 +95,7 @@ impl<'a> BitWriter<'a> {
 
 // The n low bits of a number, at the start of a buffer. Its contract says nothing of a writer.
 pub fn first_bits(dest: &mut [u8], value: u64, n: u32) -> Moved
-    ensures { λ a. ⌜ (a ≡ advanceOf (length (now (dest .entry))) (cursorAt 0) n 64) × (now (dest .exit) ≡ writtenOf (now (dest .entry)) (cursorAt 0) n 64 value) ⌝ }
+    ensures { λ a. ⌜ FirstBits a (now (dest .exit)) (now (dest .entry)) value n ⌝ }
 {
     let mut w = BitWriter::new(dest);
     w.write_u64(value, n)

@@ -1,3 +1,4 @@
+pub mod Contracts
 pub mod Ink
 pub mod Encode
 pub mod Strokes

@@ -3,7 +3,7 @@ ghost use mathlib.Core.Path.{_≡_};
 ghost use lib.ListN.{length, replicate};
 ghost use Rattle.tables.specs.Table.{tableOf};
 ghost use Rattle.writing.specs.Encode.{begunOf};
-ghost use Rattle.writing.specs.Strokes.{onesIf};
+ghost use Rattle.writing.specs.Contracts.{Begins};
 use crate::Begun;
 use bits::ByteCount;
 use tables::Checked;
@@ -40,7 +40,7 @@ fn ones(buffer: &mut [u8])
 
 // Refusal 7 or 8, which leave the buffer as it was; else all of its bits are ones.
 pub fn begin(words: &[u64], buffer: &mut [u8]) -> Begun
-    ensures { λ r. ⌜ (r ≡ begunOf (tableOf (now (words .entry))) (length (now (buffer .entry)))) × (now (buffer .exit) ≡ onesIf (begunOf (tableOf (now (words .entry))) (length (now (buffer .entry)))) (now (buffer .entry))) ⌝ }
+    ensures { λ r. ⌜ Begins r (now (buffer .exit)) (now (words .entry)) (now (buffer .entry)) ⌝ }
 {
     match begun(words, buffer.len()) {
         Begun::Ready => {

@@ -6,8 +6,7 @@ ghost use Rattle.bits.specs.Calls.{bytes};
 ghost use Rattle.tables.specs.Table.{tableOf};
 ghost use Rattle.tables.specs.Check.{checkOf};
 ghost use Rattle.tables.specs.declared.Checked.the-variants as checked;
-ghost use Rattle.offers.specs.Records.{valuesIn, countOf, offeredAt};
-ghost use Rattle.writing.specs.Encode.{writesOf, endOf, marksOf, imageOf, encodedOf, bufferAfter};
+ghost use Rattle.writing.specs.Contracts.{Writes, Encodes};
 use crate::Begun;
 use crate::Encoded;
 use crate::Stroke;
@@ -30,7 +29,7 @@ pub fn bytes_used(at: BitPos) -> ByteCount
 // The walk, by an accepted table, through a buffer of ones.
 fn written(words: &[u64], values: &[u8], lent: &[u8], buffer: &mut [u8]) -> Encoded
     requires { ⌜ (checkOf (tableOf (now words)) ≡ checked.Accepted) × (now buffer ≡ replicate (length (now buffer)) 0xff) ⌝ }
-    ensures { λ r. ⌜ (r ≡ endOf (tableOf (now (words .entry))) (countOf (now (values .entry))) (writesOf (tableOf (now (words .entry))) (offeredAt (now (values .entry))) (length (now (lent .entry))) (length (now (buffer .entry))))) × (now (buffer .exit) ≡ imageOf (length (now (buffer .entry))) (marksOf (writesOf (tableOf (now (words .entry))) (offeredAt (now (values .entry))) (length (now (lent .entry))) (length (now (buffer .entry))))) (now (lent .entry))) ⌝ }
+    ensures { λ r. ⌜ Writes r (now (buffer .exit)) (now (words .entry)) (now (values .entry)) (now (lent .entry)) (now (buffer .entry)) ⌝ }
 {
     let mut draft = strokes::start();
     loop {
@@ -57,7 +56,7 @@ fn written(words: &[u64], values: &[u8], lent: &[u8], buffer: &mut [u8]) -> Enco
 // Values by a table into a buffer: the bytes used, or the refusal. The values are records of 24 bytes,
 // as specs/Records.antt of `offers` says; their texts stand in the lent text.
 pub fn encode(words: &[u64], values: &[u8], lent: &[u8], buffer: &mut [u8]) -> Encoded
-    ensures { λ r. ⌜ (r ≡ encodedOf (tableOf (now (words .entry))) (valuesIn (now (values .entry))) (length (now (lent .entry))) (length (now (buffer .entry)))) × (now (buffer .exit) ≡ bufferAfter (tableOf (now (words .entry))) (valuesIn (now (values .entry))) (now (lent .entry)) (now (buffer .entry))) ⌝ }
+    ensures { λ r. ⌜ Encodes r (now (buffer .exit)) (now (words .entry)) (now (values .entry)) (now (lent .entry)) (now (buffer .entry)) ⌝ }
 {
     match begins::begin(words, buffer) {
         Begun::Ready => written(words, values, lent, buffer),

@@ -7,6 +7,7 @@ ghost use Rattle.weighing.specs.declared.Lead.the-variants as lead;
 ghost use Rattle.tables.specs.Check.{payloadMax};
 ghost use Rattle.writing.specs.Ink.{poured, bytesBy, textIn, around, inked, Puttable};
 ghost use Rattle.weighing.specs.Weigh.{weighedOf};
+ghost use Rattle.writing.specs.Contracts.{Puts};
 use bits::BitPos;
 use bits::Cursor;
 use descriptor::FieldDescriptor;
@@ -126,7 +127,7 @@ pub fn write_field(
     value: PgnValue,
     lent: &[u8],
 ) -> Weighed
-    ensures { λ r. ⌜ (r ≡ weighedOf f i value (length (now (lent .entry))) (length (now (buffer .entry))) (at .0)) × (now (buffer .exit) ≡ inked (now (buffer .entry)) (at .0) (weighedOf f i value (length (now (lent .entry))) (length (now (buffer .entry))) (at .0)) (now (lent .entry))) ⌝ }
+    ensures { λ r. ⌜ Puts r (now (buffer .exit)) (weighedOf f i value (length (now (lent .entry))) (length (now (buffer .entry))) (at .0)) (now (lent .entry)) (now (buffer .entry)) (at .0) ⌝ }
 {
     let weighed = weighing::weigh_field(f, i, value, lent.len(), buffer.len(), at);
     put_weighed(buffer, at.0, weighed, lent);

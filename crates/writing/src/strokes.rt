@@ -1,14 +1,10 @@
 // The walk by single turns.
 ghost use mathlib.Core.Path.{_≡_};
-ghost use Prim.Native.Nat.{ℕ, _+_};
-ghost use mathlib.Core.Bool.{false};
 ghost use lib.ListN.{length};
 ghost use Rattle.tables.specs.Table.{tableOf};
-ghost use Rattle.walking.specs.Turns.{seen as seenOf};
-ghost use Rattle.walking.specs.Looks.{enterWith};
-ghost use Rattle.writing.specs.Ink.{inked};
-ghost use Rattle.writing.specs.Encode.{Mark, contentOf, penAfter, oneOf, countOf, tooMany};
-ghost use Rattle.writing.specs.Strokes.{strokedTo, sizeOf, Reaches, strokeBy, spotBy, endBy, shown, leftBy, strokedOf, leftOf, startOf};
+ghost use Rattle.writing.specs.Encode.{contentOf, penAfter};
+ghost use Rattle.writing.specs.Strokes.{strokedTo, sizeOf, Reaches, strokeBy, spotBy, endBy, startOf};
+ghost use Rattle.writing.specs.Contracts.{Puts, Meets, Enters, WritesNext};
 use crate::Draft;
 use crate::Pen;
 use crate::Stroke;
@@ -145,7 +141,7 @@ fn put_content(
     i: usize,
     at: BitPos,
 ) -> Weighed
-    ensures { λ r. ⌜ (r ≡ contentOf offer f i (length (now (lent .entry))) (length (now (buffer .entry))) (at .0)) × (now (buffer .exit) ≡ inked (now (buffer .entry)) (at .0) (contentOf offer f i (length (now (lent .entry))) (length (now (buffer .entry))) (at .0)) (now (lent .entry))) ⌝ }
+    ensures { λ r. ⌜ Puts r (now (buffer .exit)) (contentOf offer f i (length (now (lent .entry))) (length (now (buffer .entry))) (at .0)) (now (lent .entry)) (now (buffer .entry)) (at .0) ⌝ }
 {
     if fields::is_gap(f) {
         return weighing::weigh_gap(f, i, buffer.len(), at);
@@ -169,7 +165,7 @@ fn meet(
     to: Spot,
     here: Spot,
 ) -> Stroked
-    ensures { λ r. ⌜ (r ≡ shown (tableOf (now (words .entry))) offer here (seenOf to pen (oneOf (tableOf (now (words .entry))) (λ (j : ℕ). offer) (length (now (lent .entry))) (length (now (buffer .entry))) i e false pen))) × (now (buffer .exit) ≡ leftBy (now (lent .entry)) (now (buffer .entry)) (seenOf to pen (oneOf (tableOf (now (words .entry))) (λ (j : ℕ). offer) (length (now (lent .entry))) (length (now (buffer .entry))) i e false pen))) ⌝ }
+    ensures { λ r. ⌜ Meets r (now (buffer .exit)) (now (words .entry)) (now (buffer .entry)) (now (lent .entry)) offer i e pen to here ⌝ }
 {
     let at = pen.at;
     let f = tables::field_at(words, i);
@@ -189,7 +185,7 @@ fn meet(
 
 // Into set k, if it has not too many elements.
 fn enter(words: &[u64], offer: Offer, k: usize, pen: Pen, here: Spot) -> Stroked
-    ensures { λ r. ⌜ r ≡ shown (tableOf (now (words .entry))) offer here (enterWith (tableOf (now (words .entry))) (oneOf (tableOf (now (words .entry))) (λ (j : ℕ). offer) 0 0) (countOf (tableOf (now (words .entry)))) tooMany k (countOf (tableOf (now (words .entry))) k pen) pen) ⌝ }
+    ensures { λ r. ⌜ Enters r (now (words .entry)) offer k pen here ⌝ }
 {
     let cs = pen.counters;
     let raw = reading::counter_at(cs, k);
@@ -236,7 +232,7 @@ pub fn write_next(
     draft: Draft,
     offer: Offer,
 ) -> Stroked
-    ensures { λ r. ⌜ (r ≡ strokedOf (tableOf (now (words .entry))) offer (length (now (lent .entry))) (length (now (buffer .entry))) draft) × (now (buffer .exit) ≡ leftOf (tableOf (now (words .entry))) offer (now (lent .entry)) (now (buffer .entry)) draft) ⌝ }
+    ensures { λ r. ⌜ WritesNext r (now (buffer .exit)) (now (words .entry)) (now (buffer .entry)) (now (lent .entry)) draft offer ⌝ }
 {
     let here = draft.spot;
     let pen = draft.pen;

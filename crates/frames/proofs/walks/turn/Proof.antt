@@ -4,12 +4,12 @@ use mathlib.Core.Path.{_≡_, sym, ap₂, _∙_}
 use mathlib.Core.List.{List}
 use borrow.Author.Needs.{needs}
 use Rattle.tables.specs.Table.{tableOf}
+use Rattle.messages.specs.declared.Message.{Message}
+use Rattle.messages.specs.Messages.{wordsOf}
 use Rattle.fields.specs.Payload.{payloadOf}
 use Rattle.reading.specs.declared.Walk.{Walk}
 use Rattle.reading.specs.Steps.{nextOf}
 use Rattle.reading.specs.Demand3.{roomEnough}
-use Rattle.frames.specs.declared.Message.{Message}
-use Rattle.frames.specs.Frames.{wordsOf}
 use Rattle.frames.proofs.walks.turn.Statement.{statement}
 use Rattle.frames.proofs.walks.turn.Tie as tie
 

@@ -1,134 +1,65 @@
--- `records::pgns::decode_pgn_into` meets its contract: by the PGN. Assumes nothing.
-use mathlib.Core.Path.{refl, ap, _∙_}
+-- `records::pgns::decode_pgn_into` meets its contract: by the message that the PGN is. Assumes nothing.
+use mathlib.Core.Path.{_≡_, refl, sym, ap, _∙_, subst}
 use mathlib.Core.List.{List}
 use Prim.Native.Nat.{ℕ}
 use denote.Ref.{now}
 use lib.ListN.{length}
 use Rattle.tables.specs.Table.{tableOf}
-use Rattle.messages.proofs.Accepted.{accepted129025, accepted129026, accepted129029, accepted130900}
+use Rattle.messages.specs.declared.Known as found
+use Rattle.messages.specs.Messages.{messageOf}
+use Rattle.records.specs.declared.ByPgn.{ByPgn}
 use Rattle.records.specs.declared.ByPgn.the-variants.{Unknown, Known}
 use Rattle.records.specs.Into.{decodedInto, outAfter}
-use Rattle.records.proofs.Known.{known-as, unknown}
+use Rattle.records.specs.Pgn.{ofKnown}
+use Rattle.records.specs.Contracts.{DecodesByPgn}
 use borrow.Author.Needs.{needs}
 use Rattle.records.proofs.pgns.decode_pgn_into.Statement.{statement}
 use Rattle.records.proofs.pgns.decode_pgn_into.Tie as tie
 
-slice-aggregate-known : tie.Need-slice-aggregate-known
-slice-aggregate-known c = search needs
+-- the contract, of what was found for the PGN
+abbrev By : found.Known → ByPgn → List ℕ → List ℕ → ℕ → List ℕ → Type 0
+By k r after received padded out =
+    (r ≡ ofKnown (λ ws. Known (decodedInto (tableOf ws) received padded (length out))) Unknown k)
+    × (after ≡ ofKnown (λ ws. outAfter (tableOf ws) received padded out) out k)
 
-known-requires : tie.Need-known-requires
-known-requires c κs = (accepted129025, refl)
+told : {k : found.Known} (pgn : ℕ) (received : List ℕ) (padded : ℕ) (out : List ℕ) {r : ByPgn} {after : List ℕ} → k ≡ messageOf pgn
+    → By k r after received padded out → DecodesByPgn r after pgn received padded out
+told pgn received padded out {r} {after} e h = subst (λ (k : found.Known). By k r after received padded out) e h
+
+message-of-requires : tie.Need-message-of-requires
+message-of-requires c κs = search needs
+
+enum-known-message : tie.Need-enum-known-message
+enum-known-message c = search needs
+
+by-message-requires : tie.Need-by-message-requires
+by-message-requires c κs = search needs
+
+enum-told : tie.Need-enum-told
+enum-told c = search needs
 
 same-length : tie.Need-same-length
 same-length c = search needs
 
 returns : tie.Need-returns
 returns c =
-    let q = c .before .before in
-    let a = c .before .before .before .before .before .before .before .before .before .args in
-    let received = now (a .received) in
-    let padded = length (now (a .padded)) in
-    let out = now (a .out) in
-    let e = q .before .before .before .if1 .taken in (
-      ap Known (q .known .ensures .0) ∙ known-as (a .pgn) (λ (ws : List ℕ). Known (decodedInto (tableOf ws) received padded (length out))) Unknown 129025 e,
-      q .known .ensures .1 ∙ known-as (a .pgn) (λ (ws : List ℕ). outAfter (tableOf ws) received padded out) out 129025 e,
-    )
-
-slice-aggregate-known-2 : tie.Need-slice-aggregate-known-2
-slice-aggregate-known-2 c = search needs
-
-known-requires-2 : tie.Need-known-requires-2
-known-requires-2 c κs = (accepted129026, refl)
-
-same-length-2 : tie.Need-same-length-2
-same-length-2 c = search needs
+    let a = c .before .before .before .before .before .before .before .before .before .before .before .args in
+    let w = c .before .before .by-message .ensures in
+    told (a .pgn) (now (a .received)) (length (now (a .padded))) (now (a .out)) (sym (c .before .before .before .before .before .message .given .1) ∙ c .before .before .before .before .before .before .before .message-of .ensures) (ap Known (w .0), w .1)
 
 returns-2 : tie.Need-returns-2
 returns-2 c =
-    let q = c .before .before in
-    let a = c .before .before .before .before .before .before .before .before .before .before .args in
-    let received = now (a .received) in
-    let padded = length (now (a .padded)) in
-    let out = now (a .out) in
-    let e = q .before .before .before .if2 .taken in (
-      ap Known (q .known2 .ensures .0) ∙ known-as (a .pgn) (λ (ws : List ℕ). Known (decodedInto (tableOf ws) received padded (length out))) Unknown 129026 e,
-      q .known2 .ensures .1 ∙ known-as (a .pgn) (λ (ws : List ℕ). outAfter (tableOf ws) received padded out) out 129026 e,
-    )
-
-slice-aggregate-known-3 : tie.Need-slice-aggregate-known-3
-slice-aggregate-known-3 c = search needs
-
-known-requires-3 : tie.Need-known-requires-3
-known-requires-3 c κs = (accepted129029, refl)
-
-same-length-3 : tie.Need-same-length-3
-same-length-3 c = search needs
-
-returns-3 : tie.Need-returns-3
-returns-3 c =
-    let q = c .before .before in
-    let a = c .before .before .before .before .before .before .before .before .before .before .before .args in
-    let received = now (a .received) in
-    let padded = length (now (a .padded)) in
-    let out = now (a .out) in
-    let e = q .before .before .before .if3 .taken in (
-      ap Known (q .known3 .ensures .0) ∙ known-as (a .pgn) (λ (ws : List ℕ). Known (decodedInto (tableOf ws) received padded (length out))) Unknown 129029 e,
-      q .known3 .ensures .1 ∙ known-as (a .pgn) (λ (ws : List ℕ). outAfter (tableOf ws) received padded out) out 129029 e,
-    )
-
-slice-aggregate-known-4 : tie.Need-slice-aggregate-known-4
-slice-aggregate-known-4 c = search needs
-
-known-requires-4 : tie.Need-known-requires-4
-known-requires-4 c κs = (accepted130900, refl)
-
-same-length-4 : tie.Need-same-length-4
-same-length-4 c = search needs
-
-returns-4 : tie.Need-returns-4
-returns-4 c =
-    let q = c .before .before in
-    let a = c .before .before .before .before .before .before .before .before .before .before .before .before .args in
-    let received = now (a .received) in
-    let padded = length (now (a .padded)) in
-    let out = now (a .out) in
-    let e = q .before .before .before .if4 .taken in (
-      ap Known (q .known4 .ensures .0) ∙ known-as (a .pgn) (λ (ws : List ℕ). Known (decodedInto (tableOf ws) received padded (length out))) Unknown 130900 e,
-      q .known4 .ensures .1 ∙ known-as (a .pgn) (λ (ws : List ℕ). outAfter (tableOf ws) received padded out) out 130900 e,
-    )
-
-returns-5 : tie.Need-returns-5
-returns-5 c =
-    let a = c .before .before .before .before .before .before .before .args in
-    let received = now (a .received) in
-    let padded = length (now (a .padded)) in
-    let out = now (a .out) in
-    let x = c .before .before .before .if1 .left in
-    let y = c .before .before .if2 .left in
-    let z = c .before .if3 .left in
-    let w = c .if4 .left in (
-      unknown (a .pgn) (λ (ws : List ℕ). Known (decodedInto (tableOf ws) received padded (length out))) Unknown x y z w,
-      unknown (a .pgn) (λ (ws : List ℕ). outAfter (tableOf ws) received padded out) out x y z w,
-    )
+    let a = c .before .before .before .before .before .before .args in
+    told (a .pgn) (now (a .received)) (length (now (a .padded))) (now (a .out)) (sym (c .enum-told .given .1) ∙ c .before .before .message-of .ensures) (refl, refl)
 
 pub decode-pgn-into-spec : {M : Type 1} → statement M
 decode-pgn-into-spec =
     tie.close
     (tie.spec
-    slice-aggregate-known
-    known-requires
+    message-of-requires
+    enum-known-message
+    by-message-requires
+    enum-told
     same-length
     returns
-    slice-aggregate-known-2
-    known-requires-2
-    same-length-2
-    returns-2
-    slice-aggregate-known-3
-    known-requires-3
-    same-length-3
-    returns-3
-    slice-aggregate-known-4
-    known-requires-4
-    same-length-4
-    returns-4
-    returns-5)
+    returns-2)
