@@ -2,24 +2,14 @@
 -- the definitions of Filling, Decode and Steps together over the words and bytes themselves, and rule nothing of their own: only the code needs them.
 use mathlib.Core.Path.{_≡_}
 use Prim.Native.Nat.{ℕ}
-use mathlib.Core.Bool.{Bool}
 use mathlib.Core.List.{List}
 use lib.ListN.{length}
 use Rattle.tables.specs.Table.{tableOf}
-use Rattle.walking.specs.declared.Element.{Element}
-use Rattle.walking.specs.declared.Place.{Place}
-use Rattle.walking.specs.declared.Spot.{Spot}
-use Rattle.walking.specs.Walk.{placeOf}
-use Rattle.walking.specs.Turns.{seen, turnBy, turnWithin}
 use Rattle.fields.specs.Payload.{payloadOf}
-use Rattle.reading.specs.declared.Progress.{Progress}
 use Rattle.reading.specs.declared.Prepared.{Prepared}
 use Rattle.reading.specs.declared.Decoded.{Decoded}
-use Rattle.reading.specs.declared.Next.{Next}
-use Rattle.reading.specs.Groups.{tooMany}
 use Rattle.reading.specs.Filling.{preparedOf, runAfter}
-use Rattle.reading.specs.Decode.{oneOf, countOf, walkOf, endOf, decodedOf}
-use Rattle.reading.specs.Steps.{shown}
+use Rattle.reading.specs.Decode.{walkOf, endOf, decodedOf}
 
 -- ## Of what was received
 
@@ -43,28 +33,3 @@ walkedBy words s room =
     let t = tableOf words in
     let p = payloadOf s in
     endOf t p (walkOf t p room)
-
--- `see`: field i, in element e
-abbrev pub seenBy : List ℕ → List ℕ → ℕ → ℕ → Element → Bool → Progress → Spot → Spot → Next
-seenBy words s room i e last z to here =
-    let t = tableOf words in
-    let p = payloadOf s in
-    shown t p here (seen to z (oneOf t p room i e last z))
-
--- a turn at field i, whose place is known
-abbrev pub turnedBy : List ℕ → List ℕ → ℕ → ℕ → Place → Progress → Spot → Next
-turnedBy words s room i q z here =
-    let t = tableOf words in
-    let p = payloadOf s in
-    shown t p here (turnBy t (oneOf t p room) (countOf t p) tooMany i q z)
-
--- `at_field`
-abbrev pub fieldBy : List ℕ → List ℕ → ℕ → ℕ → Progress → Spot → Next
-fieldBy words s room i z here = turnedBy words s room i (placeOf (tableOf words) i) z here
-
--- `within`: element e of the n of set k, at offset j
-abbrev pub withinBy : List ℕ → List ℕ → ℕ → ℕ → ℕ → ℕ → ℕ → Progress → Spot → Next
-withinBy words s room k n e j z here =
-    let t = tableOf words in
-    let p = payloadOf s in
-    shown t p here (turnWithin t (oneOf t p room) (countOf t p) tooMany k n e j z)

@@ -6,7 +6,9 @@ use Rattle.bits.specs.Bits.{pick}
 use Rattle.tables.specs.Table.{Table}
 use Rattle.walking.specs.declared.Spot.{Spot}
 use Rattle.walking.specs.declared.Spot.the-variants as spot
+use Rattle.walking.specs.declared.Look.{Look}
 use Rattle.walking.specs.Turns.{Turn, moved, met, ended, broke, turn}
+use Rattle.walking.specs.Looks.{turnAt}
 use Rattle.fields.specs.declared.DecodeRefusal.{DecodeRefusal}
 use Rattle.fields.specs.declared.Shape.{Shape}
 use Rattle.fields.specs.declared.Shape.the-variants.{Number, Gap, Fixed, Whole, Lau, Lz}
@@ -56,6 +58,10 @@ turnOf t p room here s = turn t (oneOf t p room) (countOf t p) tooMany here s
 -- `next_field`
 abbrev pub nextOf : Table → Payload → ℕ → Walk → Next
 nextOf t p room w = shown t p (w .spot) (turnOf t p room (w .spot) (w .progress))
+
+-- the turn by what is to be done at the spot
+abbrev pub shownAt : Table → Payload → ℕ → Spot → Progress → Look → Next
+shownAt t p room here s l = shown t p here (turnAt t (oneOf t p room) (countOf t p) tooMany l s)
 
 -- `start`
 abbrev pub startOf : Walk

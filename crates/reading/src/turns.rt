@@ -1,14 +1,12 @@
 // The walk by single turns.
 ghost use mathlib.Core.Path.{_≡_};
-ghost use Prim.Native.Nat.{_≤_, _<_};
 ghost use Rattle.tables.specs.Table.{tableOf};
-ghost use Rattle.walking.specs.declared.Place.the-variants as place;
+ghost use Rattle.walking.specs.declared.Look.the-variants as look;
 ghost use Rattle.fields.specs.Payload.{payloadOf};
 ghost use Rattle.fields.specs.Shapes.{shapeOf};
 ghost use Rattle.fields.specs.Content.{rawIn, valueIn};
 ghost use Rattle.reading.specs.Decode.{readingOf};
-ghost use Rattle.reading.specs.Steps.{nextTo, nextOf, startOf, cameTo};
-ghost use Rattle.reading.specs.Contracts.{seenBy, turnedBy, fieldBy, withinBy};
+ghost use Rattle.reading.specs.Steps.{nextTo, shownAt, nextOf, startOf, cameTo};
 use crate::Answer;
 use crate::Came;
 use crate::Decoded;
@@ -28,7 +26,7 @@ use fields::Raw;
 use fields::field_availability;
 use fields::read_field_raw_and_value;
 use walking::Element;
-use walking::Place;
+use walking::Look;
 use walking::Spot;
 
 // A walk before its first field.
@@ -87,7 +85,7 @@ fn see(
     to: Spot,
     here: Spot,
 ) -> Next
-    ensures { λ r. ⌜ r ≡ seenBy (now (words .entry)) (now (s .entry)) room i e last p to here ⌝ }
+    ensures { λ r. ⌜ r ≡ shownAt (tableOf (now (words .entry))) (payloadOf (now (s .entry))) room here p (look.Meet i e last to) ⌝ }
 {
     let at = p.at;
     let made = p.made;
@@ -134,8 +132,8 @@ fn see(
 }
 
 // Into set k, if it has not too many elements.
-fn enter(words: &[u64], s: &[u8], room: usize, k: usize, p: Progress, here: Spot) -> Next
-    ensures { λ r. ⌜ r ≡ turnedBy (now (words .entry)) (now (s .entry)) room 0 (place.Starts k) p here ⌝ }
+fn enter(words: &[u64], s: &[u8], k: usize, p: Progress, here: Spot) -> Next
+    ensures { λ r. ⌜ r ≡ shownAt (tableOf (now (words .entry))) (payloadOf (now (s .entry))) 0 here p (look.Enter k) ⌝ }
 {
     let at = p.at;
     let cs = p.counters;
@@ -156,89 +154,22 @@ fn enter(words: &[u64], s: &[u8], room: usize, k: usize, p: Progress, here: Spot
     }
 }
 
-// Field i, wherever it stands.
-fn at_field(words: &[u64], s: &[u8], room: usize, i: usize, p: Progress, here: Spot) -> Next
-    requires { ⌜ i < 65536 ⌝ }
-    ensures { λ r. ⌜ r ≡ fieldBy (now (words .entry)) (now (s .entry)) room i p here ⌝ }
-{
-    let to = Spot::Field(i + 1);
-    match walking::place_at(words, i) {
-        Place::Starts(k) => enter(words, s, room, k, p, here),
-        Place::Inside => next(Answer::Moved, to, p),
-        Place::Plain => {
-            let last = i + 1 == tables::field_count(words);
-            see(words, s, room, i, Element::Outside, last, p, to, here)
-        }
-    }
-}
-
-// In element e of the n of set k, at offset j.
-fn within(
-    words: &[u64],
-    s: &[u8],
-    room: usize,
-    k: usize,
-    n: usize,
-    e: usize,
-    j: usize,
-    p: Progress,
-    here: Spot,
-) -> Next
-    ensures { λ r. ⌜ r ≡ withinBy (now (words .entry)) (now (s .entry)) room k n e j p here ⌝ }
-{
-    let set = tables::set_at(words, k);
-    let start = set.start;
-    let size = set.size;
-    if e < n {
-        if j < size {
-            let to = Spot::Within {
-                set: k,
-                count: n,
-                element: e,
-                offset: j + 1,
-            };
-            return see(
-                words,
-                s,
-                room,
-                start + j,
-                Element::At(e),
-                false,
-                p,
-                to,
-                here,
-            );
-        }
-        let to = Spot::Within {
-            set: k,
-            count: n,
-            element: e + 1,
-            offset: 0,
-        };
-        return next(Answer::Moved, to, p);
-    }
-    next(Answer::Moved, Spot::Field(start + 1), p)
-}
-
 // One turn of a walk through the working payload s, with room for so many readings in all.
 pub fn next_field(words: &[u64], s: &[u8], room: usize, walk: Walk) -> Next
     ensures { λ r. ⌜ r ≡ nextOf (tableOf (now (words .entry))) (payloadOf (now (s .entry))) room walk ⌝ }
 {
     let here = walk.spot;
     let p = walk.progress;
-    match here {
-        Spot::Field(i) => {
-            if i < tables::field_count(words) {
-                return at_field(words, s, room, i, p, here);
-            }
-            next(Answer::Ended, here, p)
-        }
-        Spot::Within {
-            set,
-            count,
+    match walking::look_at(words, here) {
+        Look::End => next(Answer::Ended, here, p),
+        Look::Pass(to) => next(Answer::Moved, to, p),
+        Look::Enter(k) => enter(words, s, k, p, here),
+        Look::Meet {
+            field,
             element,
-            offset,
-        } => within(words, s, room, set, count, element, offset, p, here),
+            last,
+            to,
+        } => see(words, s, room, field, element, last, p, to, here),
     }
 }
 

@@ -3,15 +3,14 @@
 ghost use Prim.Native.Nat.{_*_, _≤_};
 ghost use mathlib.Core.Path.{_≡_};
 ghost use lib.ListN.{length};
+ghost use Rattle.hexadecimal.specs.Digits.{valueOf};
+use hexadecimal::value_of;
 
 const DECIMAL_DIGITS: usize = 20;
 
 const HEX_DIGITS: usize = 16;
 
 const BUFFER_DIGITS: usize = 512;
-
-// What a digit's value is never: the mark of a byte that is none.
-const NO_DIGIT: u64 = 16;
 
 const TENTH: u64 = 1844674407370955161;
 
@@ -51,15 +50,11 @@ pub fn field_end(s: &[u8], from: usize) -> usize
     part_end(s, from, b' ')
 }
 
-// The value of a hexadecimal digit, or NO_DIGIT.
+// The value of a hexadecimal digit, or 16 of a byte that is none.
 fn digit(b: u8) -> u64
-    ensures { λ r. ⌜ r ≤ 16 ⌝ }
+    ensures { λ r. ⌜ r ≡ valueOf b ⌝ }
 {
-    match b {
-        b'0'..=b'9' => (b - 48) as u64,
-        b'A'..=b'F' => (b - 55) as u64,
-        _ => NO_DIGIT,
-    }
+    value_of(b) as u64
 }
 
 fn no_number() -> Number {

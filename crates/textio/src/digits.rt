@@ -3,6 +3,7 @@
 ghost use Prim.Native.Nat.{_+_, _*_, _<_, _≤_};
 ghost use mathlib.Core.Path.{_≡_};
 ghost use lib.ListN.{length};
+use hexadecimal::digit_of;
 
 pub fn put(out: &mut [u8], at: usize, b: u8) -> usize
     requires { ⌜ at < length (now out) ⌝ }
@@ -26,13 +27,6 @@ pub fn put_text(out: &mut [u8], at: usize, text: &[u8]) -> usize
     at + i
 }
 
-// A digit, in capitals above 9.
-fn glyph(d: u64) -> u8
-    requires { ⌜ d < 16 ⌝ }
-{
-    if d < 10 { 48 + d as u8 } else { 55 + d as u8 }
-}
-
 // Puts the digits of n, of which there are `count`, from the last to the first.
 fn spell(out: &mut [u8], at: usize, n: u64, base: u64, count: usize)
     requires { ⌜ (at + count ≤ length (now out)) × (0 < base) × (base ≤ 16) ⌝ }
@@ -41,7 +35,7 @@ fn spell(out: &mut [u8], at: usize, n: u64, base: u64, count: usize)
     let mut rest = n;
     while 0 < i {
         i -= 1;
-        out[at + i] = glyph(rest % base);
+        out[at + i] = digit_of(rest % base);
         rest /= base;
     }
 }
@@ -66,11 +60,11 @@ pub fn put_decimal(out: &mut [u8], at: usize, n: usize) -> usize
 {
     let v = n as u64;
     if v < 10 {
-        return put(out, at, glyph(v));
+        return put(out, at, digit_of(v));
     }
     if v < 100 {
-        let a = put(out, at, glyph(v / 10));
-        return put(out, a, glyph(v % 10));
+        let a = put(out, at, digit_of(v / 10));
+        return put(out, a, digit_of(v % 10));
     }
     let count = decimal_digits(v);
     spell(out, at, v, 10, count);
@@ -113,8 +107,8 @@ pub fn put_pairs(out: &mut [u8], at: usize, s: &[u8]) -> usize
     let mut to = at;
     while i < s.len() {
         let x = wide(s[i]);
-        out[to] = glyph(x / 16);
-        out[to + 1] = glyph(x % 16);
+        out[to] = digit_of(x / 16);
+        out[to + 1] = digit_of(x);
         to += 2;
         i += 1;
     }

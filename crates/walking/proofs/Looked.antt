@@ -63,6 +63,10 @@ module _ (t : Table) {W S F : Type 0} (one : ℕ → Element → Bool → S → 
       ap (λ (x : Turn W S F). either (ltb e n) x (moved (Field (t .set k .start + 1)) s)) (picks (ltb j (t .set k .size)) _ _ s)
       ∙ picks (ltb e n) _ _ s
 
+  -- once code has what is to be done
+  pub looked : (p : Spot) (s : S) (l : Look) → l ≡ lookOf t p → T l s ≡ turn t one count over p s
+  looked p s l q = ap (λ (x : Look). T x s) q ∙ sym (look-law p s)
+
 -- another rule that says the same here
 module _ (t : Table) {W S F : Type 0} (one one′ : ℕ → Element → Bool → S → One W S F) (count : ℕ → S → ℕ) (over : ℕ → ℕ → ℕ → F) where
   at-like : (l : Look) (s : S) → ((i : ℕ) (e : Element) (last : Bool) → one i e last s ≡ one′ i e last s) → turnAt t one count over l s ≡ turnAt t one′ count over l s

@@ -1,23 +1,24 @@
 -- What is written at a field, by its shape and the offer; and that it lies in the buffer. Assumes nothing.
 use mathlib.Core.Path.{_≡_, refl}
-use mathlib.Core.Bool.{Bool, true, false}
-use mathlib.Core.List.{List}
+use mathlib.Core.Bool.{Bool, true, false, false≢true}
 use Prim.Native.Nat.{ℕ}
 use native.Mathlib.Omega.{arith}
 use Rattle.bits.specs.Bits.{pick}
-use Rattle.bits.specs.Calls.{bits, roomOf, widthMax}
-use Rattle.bits.specs.declared.Room.{Room}
-use Rattle.bits.specs.declared.Room.the-variants as room
 use Rattle.descriptor.specs.declared.FieldDescriptor.{FieldDescriptor}
+use Rattle.tables.specs.Table.{Table}
+use Rattle.walking.specs.declared.Look.{Look}
+use Rattle.walking.specs.declared.Look.the-variants.{End, Pass, Enter, Meet}
 use Rattle.fields.specs.Shapes.{shapeOf, isGap}
 use Rattle.offers.specs.declared.Offer.{Offer}
 use Rattle.offers.specs.declared.Offer.the-variants.{Nothing, NoKind, Value}
 use Rattle.weighing.specs.declared.Weighed.{Weighed}
 use Rattle.weighing.specs.declared.Weighed.the-variants as weighed
-use Rattle.weighing.specs.Weigh.{atField, gapOf}
-use Rattle.writing.specs.Ink.{inked, Puttable}
+use Rattle.weighing.specs.Weigh.{gapOf}
+use Rattle.writing.specs.Ink.{Puttable}
 use Rattle.writing.specs.Encode.{offeredOf, contentOf}
-use Rattle.writing.specs.Strokes.{Reaches}
+use Rattle.writing.specs.declared.Pen.{Pen}
+use Rattle.writing.specs.Strokes.{Reaches, putBy}
+use Rattle.writing.specs.Ones.{inks}
 use Rattle.writing.proofs.Puts.{weighed-puts, gap-puts}
 
 pub content-gap : (o : Offer) (f : FieldDescriptor) (i lent size at : ℕ) → isGap (shapeOf f) ≡ true → gapOf f i size at ≡ contentOf o f i lent size at
@@ -26,14 +27,6 @@ content-gap o f i lent size at e = rw e
 -- another name of the offer, where code has taken it apart
 pub content-offered : (f : FieldDescriptor) (i lent size at : ℕ) → isGap (shapeOf f) ≡ false → (o o′ : Offer) → o ≡ o′ → offeredOf o f i lent size at ≡ contentOf o′ f i lent size at
 content-offered f i lent size at e o o′ q = rw (e, q)
-
--- bits that stay ones put nothing
-pub gap-inks : (buffer lent : List ℕ) (f : FieldDescriptor) (i size at : ℕ) → inked buffer at (gapOf f i size at) lent ≡ buffer
-gap-inks buffer lent f i size at = go (roomOf size at (f .width) widthMax)
-  where
-    go : (r : Room) → inked buffer at (atField r i (weighed.Gap (bits (f .width)))) lent ≡ buffer
-    go room.Fits = refl
-    go (room.Refused e) = refl
 
 -- ## What is written lies in the buffer
 
@@ -59,3 +52,10 @@ module _ (size at lent : ℕ) where
   -- .. and the cursor after it in 64 bits
   pub content-in : (o : Offer) (f : FieldDescriptor) (i : ℕ) → Reaches at (contentOf o f i lent size at)
   content-in o f i = puttable-in (contentOf o f i lent size at) (content-puts o f i)
+
+-- what a turn puts has room
+pub put-room : (t : Table) (o : Offer) (lent size : ℕ) (s : Pen) (l : Look) → inks (putBy t o lent size s l) ≡ true → Puttable size (s .at .0) (putBy t o lent size s l) lent
+put-room t o lent size s End h = absurd (false≢true h)
+put-room t o lent size s (Pass q) h = absurd (false≢true h)
+put-room t o lent size s (Enter k) h = absurd (false≢true h)
+put-room t o lent size s (Meet i e last q) h = content-puts size (s .at .0) lent o (t .field i) i

@@ -5,6 +5,7 @@ use Rattle.one_answer.proofs.Fixes.{Fixes, fixed}
 use Rattle.writing.proofs.ink.write_field.Reads as write-field
 use Rattle.writing.proofs.begins.begin.Reads as begin
 use Rattle.writing.proofs.strokes.start.Reads as start
+use Rattle.writing.proofs.strokes.weigh_next.Reads as weigh-next
 use Rattle.writing.proofs.strokes.write_next.Reads as write-next
 use Rattle.writing.proofs.encodes.bytes_used.Reads as bytes-used
 use Rattle.writing.proofs.encodes.encode.Reads as encode
@@ -23,6 +24,9 @@ same-begin = fixed (λ κs a x s p. p .1)
 
 one-start : Fixes start.Post (λ κs x s. x)
 one-start = fixed (λ κs a x s p. p)
+
+one-weigh-next : Fixes weigh-next.Post (λ κs x s. x)
+one-weigh-next = fixed (λ κs a x s p. p)
 
 one-write-next : Fixes write-next.Post (λ κs x s. x)
 one-write-next = fixed (λ κs a x s p. p .0)

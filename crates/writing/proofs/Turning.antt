@@ -1,5 +1,5 @@
 -- What one turn comes to, by what was weighed and tested. Assumes nothing.
-use mathlib.Core.Path.{_≡_, refl, sym, ap, _∙_}
+use mathlib.Core.Path.{_≡_, refl, ap, ap₂, _∙_}
 use mathlib.Core.Bool.{Bool, true, false}
 use mathlib.Core.List.{List}
 use Prim.Native.Nat.{ℕ, _≤_, _<_}
@@ -11,9 +11,10 @@ use Rattle.walking.specs.declared.Element.{Element}
 use Rattle.walking.specs.declared.Spot.{Spot}
 use Rattle.walking.specs.declared.Spot.the-variants as spot
 use Rattle.walking.specs.declared.Look.{Look}
+use Rattle.walking.specs.declared.Look.the-variants.{End, Pass, Enter, Meet}
 use Rattle.walking.specs.Turns.{Turn, moved, broke, either, seen}
 use Rattle.walking.specs.Looks.{lookOf, enterWith, turnAt}
-use Rattle.walking.proofs.Looked.{look-law}
+use Rattle.walking.proofs.Looked.{looked}
 use Rattle.offers.specs.declared.Offer.{Offer}
 use Rattle.weighing.specs.declared.EncodeRefusal.{EncodeRefusal}
 use Rattle.weighing.specs.declared.Weighed.{Weighed}
@@ -22,8 +23,8 @@ use Rattle.writing.specs.declared.Pen.{Pen}
 use Rattle.writing.specs.declared.Draft.{Draft}
 use Rattle.writing.specs.declared.Stroke.the-variants.{Moved, Refused}
 use Rattle.writing.specs.Ink.{inked}
-use Rattle.writing.specs.Encode.{Mark, markAt, penAfter, settled, oneOf, countOf, tooMany}
-use Rattle.writing.specs.Strokes.{strokedTo, strokeBy, spotBy, spanOf, shown, leftBy, turnOf, strokedOf, leftOf}
+use Rattle.writing.specs.Encode.{Mark, markAt, contentOf, penAfter, settled, oneOf, countOf, tooMany}
+use Rattle.writing.specs.Strokes.{strokedTo, strokeBy, spotBy, spanOf, shown, leftBy, turnOf, leftOf, putBy, weighingTo, weighingAt, weighingOf}
 
 module _ (t : Table) (o : Offer) (here : Spot) where
   -- at a field
@@ -69,11 +70,19 @@ module _ (t : Table) (o : Offer) (d : Draft) (l : Look) (q : l ≡ lookOf t (d .
   abbrev turned : ℕ → ℕ → Turn Mark Pen EncodeRefusal
   turned lent size = turnAt t (oneOf t (λ (j : ℕ). o) lent size) (countOf t) tooMany l (d .pen)
 
-  looked : (lent size : ℕ) → turned lent size ≡ turnOf t o lent size d
-  looked lent size = ap (λ (x : Look). turnAt t (oneOf t (λ (j : ℕ). o) lent size) (countOf t) tooMany x (d .pen)) q ∙ sym (look-law t (oneOf t (λ (j : ℕ). o) lent size) (countOf t) tooMany (d .spot) (d .pen))
+  same : (lent size : ℕ) → turned lent size ≡ turnOf t o lent size d
+  same lent size = looked t (oneOf t (λ (j : ℕ). o) lent size) (countOf t) tooMany (d .spot) (d .pen) l q
 
-  pub look-shown : (lent size : ℕ) → shown t o (d .spot) (turned lent size) ≡ strokedOf t o lent size d
-  look-shown lent size = ap (shown t o (d .spot)) (looked lent size)
+  pub look-weighed : (lent size : ℕ) → weighingAt t o lent size (d .spot) (d .pen) l ≡ weighingOf t o lent size d
+  look-weighed lent size = ap₂ weighingTo (ap (shown t o (d .spot)) (same lent size)) (ap (putBy t o lent size (d .pen)) q)
 
-  pub look-left : (lent buffer : List ℕ) → leftBy lent buffer (turned (length lent) (length buffer)) ≡ leftOf t o lent buffer d
-  look-left lent buffer = ap (leftBy lent buffer) (looked (length lent) (length buffer))
+-- what was weighed, put where the pen stands, is what a turn leaves
+pub left-inked : (t : Table) (o : Offer) (d : Draft) (lent buffer : List ℕ) → inked buffer (d .pen .at .0) (weighingOf t o (length lent) (length buffer) d .content) lent ≡ leftOf t o lent buffer d
+left-inked t o d lent buffer = by (lookOf t (d .spot)) ∙ ap (leftBy lent buffer) (same t o d (lookOf t (d .spot)) refl (length lent) (length buffer))
+  where
+    by : (l : Look) → inked buffer (d .pen .at .0) (putBy t o (length lent) (length buffer) (d .pen) l) lent
+        ≡ leftBy lent buffer (turnAt t (oneOf t (λ (j : ℕ). o) (length lent) (length buffer)) (countOf t) tooMany l (d .pen))
+    by End = refl
+    by (Pass q) = refl
+    by (Enter k) = enters-left t o (d .spot) (length lent) (length buffer) lent buffer k (countOf t k (d .pen)) (d .pen)
+    by (Meet i e last q) = settled-left t o (d .spot) lent buffer i e (d .pen) q (contentOf o (t .field i) i (length lent) (length buffer) (d .pen .at .0))

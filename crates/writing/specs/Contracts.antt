@@ -2,13 +2,10 @@
 -- Strokes and Ink together over the words and bytes themselves, and rule nothing of their own: only the code needs them.
 use mathlib.Core.Path.{_≡_}
 use Prim.Native.Nat.{ℕ}
-use mathlib.Core.Bool.{false}
 use mathlib.Core.List.{List}
 use lib.ListN.{length}
 use Rattle.tables.specs.Table.{tableOf}
-use Rattle.walking.specs.declared.Element.{Element}
 use Rattle.walking.specs.declared.Spot.{Spot}
-use Rattle.walking.specs.Turns.{seen}
 use Rattle.walking.specs.Looks.{enterWith}
 use Rattle.weighing.specs.declared.Weighed.{Weighed}
 use Rattle.offers.specs.declared.Offer.{Offer}
@@ -20,7 +17,7 @@ use Rattle.writing.specs.declared.Stroked.{Stroked}
 use Rattle.writing.specs.declared.Encoded.{Encoded}
 use Rattle.writing.specs.Ink.{inked}
 use Rattle.writing.specs.Encode.{begunOf, oneOf, countOf, tooMany, writesOf, endOf, marksOf, imageOf, encodedOf, bufferAfter}
-use Rattle.writing.specs.Strokes.{onesIf, shown, leftBy, strokedOf, leftOf}
+use Rattle.writing.specs.Strokes.{onesIf, shown, strokedOf, leftOf}
 
 -- `begin`
 abbrev pub Begins : Begun → List ℕ → List ℕ → List ℕ → Type 0
@@ -30,16 +27,9 @@ Begins r after words buffer =
 
 -- ## One field
 
--- `write_field`, `put_content`: what was weighed, put at a bit
+-- `write_field`: what was weighed, put at a bit
 abbrev pub Puts : Weighed → List ℕ → Weighed → List ℕ → List ℕ → ℕ → Type 0
 Puts r after weighed lent buffer at = (r ≡ weighed) × (after ≡ inked buffer at weighed lent)
-
--- `meet`: field i, in element e
-abbrev pub Meets : Stroked → List ℕ → List ℕ → List ℕ → List ℕ → Offer → ℕ → Element → Pen → Spot → Spot → Type 0
-Meets r after words buffer lent offer i e pen to here =
-    let t = tableOf words in
-    let s = seen to pen (oneOf t (λ (j : ℕ). offer) (length lent) (length buffer) i e false pen) in
-    (r ≡ shown t offer here s) × (after ≡ leftBy lent buffer s)
 
 -- `enter`: set k, which touches no buffer
 abbrev pub Enters : Stroked → List ℕ → Offer → ℕ → Pen → Spot → Type 0

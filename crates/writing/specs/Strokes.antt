@@ -1,4 +1,5 @@
--- One turn of the walk of document 01, "Writing a payload": what `write_next` answers, and what it leaves in the buffer.
+-- One turn of the walk of document 01, "Writing a payload": what `write_next` answers, and what it leaves in the buffer; and what `weigh_next` does,
+-- which sees no buffer.
 use mathlib.Core.Path.{_≡_}
 use Prim.Native.Nat.{ℕ, _+_, _^_, _<_}
 use mathlib.Core.List.{List}
@@ -8,6 +9,9 @@ use Rattle.bits.specs.declared.BitPos.{BitPos}
 use Rattle.tables.specs.Table.{Table}
 use Rattle.walking.specs.declared.Spot.{Spot}
 use Rattle.walking.specs.declared.Spot.the-variants as spot
+use Rattle.walking.specs.declared.Look.{Look}
+use Rattle.walking.specs.declared.Look.the-variants.{End, Pass, Enter, Meet}
+use Rattle.walking.specs.Looks.{lookOf, turnAt}
 use Rattle.walking.specs.Turns.{Turn, moved, met, ended, broke, turn}
 use Rattle.reading.specs.declared.Span.{Span}
 use Rattle.weighing.specs.declared.EncodeRefusal.{EncodeRefusal}
@@ -23,8 +27,9 @@ use Rattle.writing.specs.declared.Begun.the-variants as begun
 use Rattle.writing.specs.declared.Stroke.{Stroke}
 use Rattle.writing.specs.declared.Stroke.the-variants.{Wrote, Skipped, Moved, Ended, Refused}
 use Rattle.writing.specs.declared.Stroked.{Stroked}
+use Rattle.writing.specs.declared.Weighing.{Weighing}
 use Rattle.writing.specs.Ink.{inked}
-use Rattle.writing.specs.Encode.{Mark, oneOf, countOf, tooMany, beginning}
+use Rattle.writing.specs.Encode.{Mark, contentOf, oneOf, countOf, tooMany, beginning}
 
 abbrev pub draftAt : Spot → Pen → Draft
 draftAt q s = record { spot = q; pen = s }
@@ -94,6 +99,32 @@ strokedOf t o lent size d = shown t o (d .spot) (turnOf t o lent size d)
 
 abbrev pub leftOf : Table → Offer → List ℕ → List ℕ → Draft → List ℕ
 leftOf t o lent buffer d = leftBy lent buffer (turnOf t o (length lent) (length buffer) d)
+
+-- ## A turn before anything is put
+
+-- no bit
+abbrev pub nothing : Weighed
+nothing = weighed.Gap (bits 0)
+
+-- what a turn puts: the content of the field that it meets, which may be a refusal
+abbrev pub putBy : Table → Offer → ℕ → ℕ → Pen → Look → Weighed
+putBy t o lent size s End = nothing
+putBy t o lent size s (Pass q) = nothing
+putBy t o lent size s (Enter k) = nothing
+putBy t o lent size s (Meet i e last q) = contentOf o (t .field i) i lent size (s .at .0)
+
+abbrev pub weighingTo : Stroked → Weighed → Weighing
+weighingTo a w = record { stroked = a; content = w }
+
+-- by what is to be done at the spot
+abbrev pub weighingAt : Table → Offer → ℕ → ℕ → Spot → Pen → Look → Weighing
+weighingAt t o lent size here s l = weighingTo (shown t o here (turnAt t (oneOf t (λ (j : ℕ). o) lent size) (countOf t) tooMany l s)) (putBy t o lent size s l)
+
+-- `weigh_next`: a lent text and a buffer of so many bytes
+abbrev pub weighingOf : Table → Offer → ℕ → ℕ → Draft → Weighing
+weighingOf t o lent size d = weighingTo (strokedOf t o lent size d) (putBy t o lent size (d .pen) (lookOf t (d .spot)))
+
+-- ## Before the first turn
 
 -- `start`
 abbrev pub startOf : Draft

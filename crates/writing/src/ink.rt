@@ -1,11 +1,13 @@
 // What is put of a field that was weighed.
 ghost use mathlib.Core.Path.{_≡_};
+ghost use mathlib.Core.Bool.{true};
 ghost use Prim.Native.Nat.{_+_, _*_, _≤_, _<_};
 ghost use lib.ListN.{length, take, drop, replicate};
 ghost use Rattle.bits.specs.Bits.{written};
 ghost use Rattle.weighing.specs.declared.Lead.the-variants as lead;
 ghost use Rattle.tables.specs.Check.{payloadMax};
 ghost use Rattle.writing.specs.Ink.{poured, bytesBy, textIn, around, inked, Puttable};
+ghost use Rattle.writing.specs.Ones.{inks};
 ghost use Rattle.weighing.specs.Weigh.{weighedOf};
 ghost use Rattle.writing.specs.Contracts.{Puts};
 use bits::BitPos;
@@ -93,9 +95,9 @@ fn put_text(buffer: &mut [u8], at: usize, size: usize, lead: Lead, b: PgnBytes, 
     }
 }
 
-// Puts what was weighed at a bit.
-fn put_weighed(buffer: &mut [u8], at: usize, weighed: Weighed, lent: &[u8])
-    requires { ⌜ Puttable (length (now buffer)) at weighed (length (now lent)) ⌝ }
+// Puts what was weighed at a bit: what inks has room.
+pub(crate) fn put_weighed(buffer: &mut [u8], at: usize, weighed: Weighed, lent: &[u8])
+    requires { ⌜ (inks weighed ≡ true → Puttable (length (now buffer)) at weighed (length (now lent))) ⌝ }
     ensures { λ _. ⌜ now (buffer .exit) ≡ inked (now (buffer .entry)) at weighed (now (lent .entry)) ⌝ }
 {
     match weighed {

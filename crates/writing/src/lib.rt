@@ -4,10 +4,12 @@
 // that the words are: refusal 7 or 8, which leave the buffer as it was; else the bytes used, or the
 // refusal that ended the walk, and the buffer at exit is ones, into which each field wholly written is
 // put: a faulty field leaves no bit. `write_next` takes one turn of the same walk, as specs/Strokes.antt
-// says; it and `write_field` put one field and keep every other bit. No public call has a `requires`.
+// says: `weigh_next`, which needs no buffer, and what it weighed is put. It and `write_field` put one
+// field and keep every other bit. No public call has a `requires`.
 //
 //     begin                 7 and 8, and all bits of the buffer are ones
 //     start, write_next     turn by turn: each takes the next value, or says that there is none
+//     weigh_next            the same turn before anything is put, by lengths alone
 //     encode                all of it in one call, by value records in bytes
 //     write_field           one field, by itself
 //     bytes_used            the bytes that so many bits take
@@ -16,6 +18,7 @@ use bits::ByteCount;
 use reading::Span;
 use walking::Spot;
 use weighing::EncodeRefusal;
+use weighing::Weighed;
 
 mod begins;
 mod encodes;
@@ -27,6 +30,7 @@ pub use crate::encodes::bytes_used;
 pub use crate::encodes::encode;
 pub use crate::ink::write_field;
 pub use crate::strokes::start;
+pub use crate::strokes::weigh_next;
 pub use crate::strokes::write_next;
 
 // How far a walk has come: its cursor, the values used, the raw of each set's counter.
@@ -59,6 +63,12 @@ pub enum Stroke {
 pub struct Stroked {
     pub stroke: Stroke,
     pub draft: Draft,
+}
+
+// The answer of `weigh_next`: what the turn comes to, and what it puts at the bit where the pen stood.
+pub struct Weighing {
+    pub stroked: Stroked,
+    pub content: Weighed,
 }
 
 // The answer of `begin`.

@@ -1,15 +1,18 @@
 // The walk by single turns.
 ghost use mathlib.Core.Path.{_≡_};
+ghost use mathlib.Core.Bool.{false};
 ghost use lib.ListN.{length};
 ghost use Rattle.tables.specs.Table.{tableOf};
+ghost use Rattle.walking.specs.declared.Look.the-variants as look;
 ghost use Rattle.writing.specs.Encode.{contentOf, penAfter};
-ghost use Rattle.writing.specs.Strokes.{strokedTo, sizeOf, Reaches, strokeBy, spotBy, endBy, startOf};
-ghost use Rattle.writing.specs.Contracts.{Puts, Meets, Enters, WritesNext};
+ghost use Rattle.writing.specs.Strokes.{strokedTo, sizeOf, Reaches, strokeBy, spotBy, endBy, startOf, nothing, weighingTo, weighingAt, weighingOf};
+ghost use Rattle.writing.specs.Contracts.{Enters, WritesNext};
 use crate::Draft;
 use crate::Pen;
 use crate::Stroke;
 use crate::Stroked;
-use crate::ink::write_field;
+use crate::Weighing;
+use crate::ink::put_weighed;
 use bits::BitPos;
 use descriptor::FieldDescriptor;
 use fields::Raw;
@@ -132,44 +135,44 @@ fn pen_after(words: &[u64], i: usize, e: Element, pen: Pen, weighed: Weighed) ->
     }
 }
 
-// Field i at a bit: bits that stay ones, or the offer, weighed and put.
-fn put_content(
-    buffer: &mut [u8],
-    lent: &[u8],
+// Field i at a bit: bits that stay ones, or the offer, weighed.
+fn content_of(
     offer: Offer,
     f: FieldDescriptor,
     i: usize,
+    lent: usize,
+    size: usize,
     at: BitPos,
 ) -> Weighed
-    ensures { λ r. ⌜ Puts r (now (buffer .exit)) (contentOf offer f i (length (now (lent .entry))) (length (now (buffer .entry))) (at .0)) (now (lent .entry)) (now (buffer .entry)) (at .0) ⌝ }
+    ensures { λ r. ⌜ r ≡ contentOf offer f i lent size (at .0) ⌝ }
 {
     if fields::is_gap(f) {
-        return weighing::weigh_gap(f, i, buffer.len(), at);
+        return weighing::weigh_gap(f, i, size, at);
     }
     match offer {
         Offer::Nothing => Weighed::Refused(EncodeRefusal::ValueCount { field: i }),
         Offer::NoKind => Weighed::Refused(EncodeRefusal::WrongKind { field: i }),
-        Offer::Value(value) => write_field(buffer, at, f, i, value, lent),
+        Offer::Value(value) => weighing::weigh_field(f, i, value, lent, size, at),
     }
 }
 
 // Field i, in element e; the walk then goes on at `to`. `here` is the spot that it stands at.
 fn meet(
     words: &[u64],
-    buffer: &mut [u8],
-    lent: &[u8],
+    lent: usize,
+    size: usize,
     offer: Offer,
     i: usize,
     e: Element,
     pen: Pen,
     to: Spot,
     here: Spot,
-) -> Stroked
-    ensures { λ r. ⌜ Meets r (now (buffer .exit)) (now (words .entry)) (now (buffer .entry)) (now (lent .entry)) offer i e pen to here ⌝ }
+) -> Weighing
+    ensures { λ r. ⌜ r ≡ weighingAt (tableOf (now (words .entry))) offer lent size here pen (look.Meet i e false to) ⌝ }
 {
     let at = pen.at;
     let f = tables::field_at(words, i);
-    let content = put_content(buffer, lent, offer, f, i, at);
+    let content = content_of(offer, f, i, lent, size, at);
     let bits = size_of(content);
     let v = Span {
         field: i,
@@ -180,7 +183,21 @@ fn meet(
     let stroke = stroke_of(content, v);
     let spot = spot_after(content, to, here);
     let after = pen_after(words, i, e, pen, content);
-    stroked(stroke, spot, after)
+    Weighing {
+        stroked: stroked(stroke, spot, after),
+        content,
+    }
+}
+
+// A turn that meets no field puts nothing.
+fn unmet(stroked: Stroked) -> Weighing
+    ensures { λ r. ⌜ r ≡ weighingTo stroked nothing ⌝ }
+{
+    let bits = BitPos(0);
+    Weighing {
+        stroked,
+        content: Weighed::Gap { bits },
+    }
 }
 
 // Into set k, if it has not too many elements.
@@ -223,6 +240,26 @@ fn end_of(words: &[u64], offer: Offer) -> Stroke
     }
 }
 
+// One turn of a walk, with the next value, by the lengths of the lent text and the buffer alone: what it
+// comes to, and what it would put.
+pub fn weigh_next(words: &[u64], lent: usize, size: usize, draft: Draft, offer: Offer) -> Weighing
+    ensures { λ r. ⌜ r ≡ weighingOf (tableOf (now (words .entry))) offer lent size draft ⌝ }
+{
+    let here = draft.spot;
+    let pen = draft.pen;
+    match walking::look_at(words, here) {
+        Look::End => unmet(stroked(end_of(words, offer), here, pen)),
+        Look::Pass(to) => unmet(stroked(Stroke::Moved, to, pen)),
+        Look::Enter(k) => unmet(enter(words, offer, k, pen, here)),
+        Look::Meet {
+            field,
+            element,
+            last: _,
+            to,
+        } => meet(words, lent, size, offer, field, element, pen, to, here),
+    }
+}
+
 // One turn of a walk, with the next value: what it came to, and the buffer with the field that was
 // written. The offer is used if the answer is `Wrote`.
 pub fn write_next(
@@ -234,17 +271,10 @@ pub fn write_next(
 ) -> Stroked
     ensures { λ r. ⌜ WritesNext r (now (buffer .exit)) (now (words .entry)) (now (buffer .entry)) (now (lent .entry)) draft offer ⌝ }
 {
-    let here = draft.spot;
     let pen = draft.pen;
-    match walking::look_at(words, here) {
-        Look::End => stroked(end_of(words, offer), here, pen),
-        Look::Pass(to) => stroked(Stroke::Moved, to, pen),
-        Look::Enter(k) => enter(words, offer, k, pen, here),
-        Look::Meet {
-            field,
-            element,
-            last: _,
-            to,
-        } => meet(words, buffer, lent, offer, field, element, pen, to, here),
-    }
+    let at = pen.at;
+    let next = weigh_next(words, lent.len(), buffer.len(), draft, offer);
+    let content = next.content;
+    put_weighed(buffer, at.0, content, lent);
+    next.stroked
 }

@@ -48,7 +48,7 @@ returns c =
     let a = q .before .before .before .before .before .before .before .args in
     let t = tableOf (now (a .words)) in
     let p = payloadOf (now (a .s)) in
-    c .next .ensures ∙ ap (enterSays t p (a .room) (a .here) (a .p) (a .k)) (sym (d .n .given .1) ∙ counts q) ∙ enter-says t p (a .room) (a .here) (a .p) 0 (a .k)
+    c .next .ensures ∙ ap (enterSays t p (a .here) (a .p) (a .k)) (sym (d .n .given .1) ∙ counts q) ∙ enter-says t p (a .here) (a .p) (a .k)
 
 returns-2 : tie.Need-returns-2
 returns-2 c =
@@ -57,7 +57,7 @@ returns-2 c =
     let a = q .before .before .before .before .before .before .before .args in
     let t = tableOf (now (a .words)) in
     let p = payloadOf (now (a .s)) in
-    c .next2 .ensures ∙ ap (enterSays t p (a .room) (a .here) (a .p) (a .k)) (sym (d .e .given .1) ∙ counts q) ∙ enter-says t p (a .room) (a .here) (a .p) 0 (a .k)
+    c .next2 .ensures ∙ ap (enterSays t p (a .here) (a .p) (a .k)) (sym (d .e .given .1) ∙ counts q) ∙ enter-says t p (a .here) (a .p) (a .k)
 
 pub enter-spec : {M : Type 1} → statement M
 enter-spec =

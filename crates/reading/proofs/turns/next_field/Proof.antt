@@ -1,83 +1,82 @@
--- `reading::turns::next_field` meets its contract: by the spot. Assumes nothing.
-use mathlib.Core.Path.{sym, ap, _∙_, subst}
+-- `reading::turns::next_field` meets its contract: by what is to be done at the spot. Assumes nothing.
+use mathlib.Core.Path.{sym, _∙_}
 use denote.Ref.{now}
-use Prim.Native.Nat.{ℕ, _≤_, _<_}
-use native.Mathlib.Omega.{arith}
 use Rattle.tables.specs.Table.{tableOf}
 use Rattle.fields.specs.Payload.{payloadOf}
-use native.Mathlib.Nat.{mod-lt}
-use lib.Dec.{lit<}
-use lib.ListN.{getD}
-use Rattle.walking.specs.declared.Spot.{Spot}
-use Rattle.walking.specs.declared.Spot.the-variants as spot
-use Rattle.reading.specs.Steps.{shown, turnOf}
-use Rattle.reading.proofs.Turned.{turn-field, turn-end, turn-within}
+use Rattle.reading.proofs.Turned.{look-shown}
 use borrow.Author.Needs.{needs}
 use Rattle.reading.proofs.turns.next_field.Statement.{statement}
 use Rattle.reading.proofs.turns.next_field.Tie as tie
 
-enum-known-here : tie.Need-enum-known-here
-enum-known-here c = search needs
+look-at-requires : tie.Need-look-at-requires
+look-at-requires c κs = search needs
 
-field-count-requires : tie.Need-field-count-requires
-field-count-requires c κs = search needs
-
-at-field-requires : tie.Need-at-field-requires
-at-field-requires c κs =
-    let f = c .before in
-    let a = f .before .before .before .before .before .before .before .args in
-    let l : tableOf (now (a .words)) .count < 65536 = mod-lt (getD (now (a .words)) 0 0) (lit< {m = 0} {n = 65536} tt) in
-    omega (arith, l, f .field-count .ensures, c .if1 .taken)
-
-returns : tie.Need-returns
-returns c =
-    let d = c .before .before .before .before in
-    let a = c .before .before .before .before .before .before .before .before .before .args in
-    let t = tableOf (now (a .words)) in
-    let p = payloadOf (now (a .s)) in
-    c .at-field .ensures
-    ∙ turn-field t p (a .room) (spot.Field (d .here .given .0 .0)) (a .walk .progress) (d .here .given .0 .0) (subst (λ (n : ℕ). d .here .given .0 .0 < n) (c .before .before .field-count .ensures) (c .before .if1 .taken))
-    ∙ ap (λ (q : Spot). shown t p q (turnOf t p (a .room) q (a .walk .progress))) (sym (d .here .given .1))
+enum-told : tie.Need-enum-told
+enum-told c = search needs
 
 next-requires : tie.Need-next-requires
 next-requires c κs = search needs
 
-enum-known-here-2 : tie.Need-enum-known-here-2
-enum-known-here-2 c = search needs
+enum-known-to : tie.Need-enum-known-to
+enum-known-to c = search needs
 
-within-requires : tie.Need-within-requires
-within-requires c κs = search needs
+next-requires-2 : tie.Need-next-requires-2
+next-requires-2 c κs = search needs
+
+enum-known-k : tie.Need-enum-known-k
+enum-known-k c = search needs
+
+enter-requires : tie.Need-enter-requires
+enter-requires c κs = search needs
+
+enum-known-field : tie.Need-enum-known-field
+enum-known-field c = search needs
+
+see-requires : tie.Need-see-requires
+see-requires c κs = search needs
+
+returns : tie.Need-returns
+returns c =
+    let d = c .before in
+    let w = d .before .before in
+    let a = w .before .before .before .before .args in
+    c .next .ensures ∙ look-shown (tableOf (now (a .words))) (payloadOf (now (a .s))) (a .room) (a .walk) _ (sym (d .enum-told .given .1) ∙ w .look-at .ensures)
 
 returns-2 : tie.Need-returns-2
 returns-2 c =
-    let d = c .before .before .before .before in
-    let a = c .before .before .before .before .before .before .before .before .before .args in
-    let t = tableOf (now (a .words)) in
-    let p = payloadOf (now (a .s)) in
-    c .next .ensures
-    ∙ turn-end t p (a .room) (spot.Field (d .here .given .0 .0)) (a .walk .progress) (d .here .given .0 .0) (subst (λ (n : ℕ). n ≤ d .here .given .0 .0) (c .before .before .field-count .ensures) (c .before .if1 .left))
-    ∙ ap (λ (q : Spot). shown t p q (turnOf t p (a .room) q (a .walk .progress))) (sym (d .here .given .1))
+    let d = c .before .before in
+    let w = d .before .before in
+    let a = w .before .before .before .before .args in
+    c .next2 .ensures ∙ look-shown (tableOf (now (a .words))) (payloadOf (now (a .s))) (a .room) (a .walk) _ (sym (d .to .given .1) ∙ w .look-at .ensures)
 
 returns-3 : tie.Need-returns-3
 returns-3 c =
     let d = c .before .before in
-    let a = c .before .before .before .before .before .before .before .args in
-    let t = tableOf (now (a .words)) in
-    let p = payloadOf (now (a .s)) in
-    c .within .ensures
-    ∙ turn-within t p (a .room) (spot.Within (d .here2 .given .0 .0) (d .here2 .given .0 .1 .0) (d .here2 .given .0 .1 .1 .0) (d .here2 .given .0 .1 .1 .1 .0)) (a .walk .progress) (d .here2 .given .0 .0) (d .here2 .given .0 .1 .0) (d .here2 .given .0 .1 .1 .0) (d .here2 .given .0 .1 .1 .1 .0)
-    ∙ ap (λ (q : Spot). shown t p q (turnOf t p (a .room) q (a .walk .progress))) (sym (d .here2 .given .1))
+    let w = d .before .before in
+    let a = w .before .before .before .before .args in
+    c .enter .ensures ∙ look-shown (tableOf (now (a .words))) (payloadOf (now (a .s))) (a .room) (a .walk) _ (sym (d .k .given .1) ∙ w .look-at .ensures)
+
+returns-4 : tie.Need-returns-4
+returns-4 c =
+    let d = c .before .before in
+    let w = d .before .before in
+    let a = w .before .before .before .before .args in
+    c .see .ensures ∙ look-shown (tableOf (now (a .words))) (payloadOf (now (a .s))) (a .room) (a .walk) _ (sym (d .field .given .1) ∙ w .look-at .ensures)
 
 pub next-field-spec : {M : Type 1} → statement M
 next-field-spec =
     tie.close
     (tie.spec
-    enum-known-here
-    field-count-requires
-    at-field-requires
-    returns
+    look-at-requires
+    enum-told
     next-requires
-    enum-known-here-2
-    within-requires
+    enum-known-to
+    next-requires-2
+    enum-known-k
+    enter-requires
+    enum-known-field
+    see-requires
+    returns
     returns-2
-    returns-3)
+    returns-3
+    returns-4)

@@ -1,9 +1,7 @@
--- `digits::spell` is safe and ends: a digit is below the base, and what is left to put stays within the room. Assumes nothing.
-use Prim.Native.Nat.{_≤_, _<_}
+-- `digits::spell` is safe and ends: what is left to put stays within the room. Assumes nothing.
+use Prim.Native.Nat.{_≤_}
 use mathlib.Core.Path.{_≡_}
 use borrow.Author.Needs.{needs}
-use native.Mathlib.Nat.{mod-lt}
-use native.Mathlib.Omega.{arith}
 use lib.ListN.{length}
 use Rattle.textio.proofs.digits.spell.Statement.{statement}
 use Rattle.textio.proofs.digits.spell.Tie as tie
@@ -20,13 +18,11 @@ loop-holds c = search needs
 sub-i : tie.Need-sub-i Inv-loop μ-loop
 sub-i c = search needs
 
-rem-glyph : tie.Need-rem-glyph Inv-loop μ-loop
-rem-glyph c = search needs
+rem-digit-of : tie.Need-rem-digit-of Inv-loop μ-loop
+rem-digit-of c = search needs
 
-glyph-requires : tie.Need-glyph-requires Inv-loop μ-loop
-glyph-requires c κs =
-    let some : 0 < c .before .before .before .args .base = search needs in
-    omega (arith, mod-lt (c .before .loop .rest) some)
+digit-of-requires : tie.Need-digit-of-requires Inv-loop μ-loop
+digit-of-requires c κs = search needs
 
 add-out : tie.Need-add-out Inv-loop μ-loop
 add-out c = search needs
@@ -57,8 +53,8 @@ spell-spec =
     μ-loop
     loop-holds
     sub-i
-    rem-glyph
-    glyph-requires
+    rem-digit-of
+    digit-of-requires
     add-out
     slice-write-out
     div-rest

@@ -1,11 +1,13 @@
 -- `writing::ink::put_weighed` meets its contract: by what was weighed. Assumes nothing.
-use mathlib.Core.Path.{_≡_, sym, ap, _∙_, subst}
+use mathlib.Core.Path.{_≡_, refl, sym, ap, _∙_, subst}
+use mathlib.Core.Bool.{true}
 use Prim.Native.Nat.{ℕ, _*_, _/_}
 use native.Mathlib.Omega.{arith}
 use denote.Ref.{now}
 use lib.ListN.{length}
 use Rattle.weighing.specs.declared.Weighed.{Weighed}
 use Rattle.writing.specs.Ink.{textIn, bytesBy, poured, inked, Puttable}
+use Rattle.writing.specs.Ones.{inks}
 use borrow.Author.Needs.{needs}
 use Rattle.writing.proofs.ink.put_weighed.Statement.{statement}
 use Rattle.writing.proofs.ink.put_weighed.Tie as tie
@@ -17,7 +19,7 @@ put-number-requires : tie.Need-put-number-requires
 put-number-requires c κs =
     let z = c .before .before .before .before .before .before in
     let a = z .args in
-    let h = subst (λ (w : Weighed). Puttable (length (now (a .buffer))) (a .at) w (length (now (a .lent)))) (c .before .before .weighed .given .1) (z .pre) in
+    let h = subst (λ (w : Weighed). inks w ≡ true → Puttable (length (now (a .buffer))) (a .at) w (length (now (a .lent)))) (c .before .before .weighed .given .1) (z .pre) refl in
     h
 
 enum-told : tie.Need-enum-told
@@ -30,7 +32,7 @@ put-text-requires : tie.Need-put-text-requires
 put-text-requires c κs =
     let z = c .before .before .before .before .before .before .before in
     let a = z .args in
-    let h = subst (λ (w : Weighed). Puttable (length (now (a .buffer))) (a .at) w (length (now (a .lent)))) (c .before .before .before .weighed2 .given .1) (z .pre) in
+    let h = subst (λ (w : Weighed). inks w ≡ true → Puttable (length (now (a .buffer))) (a .at) w (length (now (a .lent)))) (c .before .before .before .weighed2 .given .1) (z .pre) refl in
     let w = h .1 .1 .1 in
     let s = w .same in
     let f = w .fits in
@@ -57,7 +59,7 @@ returns-3 : tie.Need-returns-3
 returns-3 c =
     let z = c .before .before .before .before .before .before .before .before .before .before in
     let a = z .args in
-    let h = subst (λ (w : Weighed). Puttable (length (now (a .buffer))) (a .at) w (length (now (a .lent)))) (c .before .before .before .before .before .before .weighed2 .given .1) (z .pre) in
+    let h = subst (λ (w : Weighed). inks w ≡ true → Puttable (length (now (a .buffer))) (a .at) w (length (now (a .lent)))) (c .before .before .before .before .before .before .weighed2 .given .1) (z .pre) refl in
     let d = c .before .before .before .before .before .before .weighed2 .given in
     let s = h .1 .1 .1 .same in
     let e : 8 * (d .0 .0 .0 / 8) ≡ d .0 .0 .0 = omega (arith, s) in

@@ -13,7 +13,7 @@ weigh-field-requires : tie.Need-weigh-field-requires
 weigh-field-requires c κs = search needs
 
 put-weighed-requires : tie.Need-put-weighed-requires
-put-weighed-requires c κs =
+put-weighed-requires c κs _ =
     let w = c .before in
     let a = c .before .before .before .before .args in
     let size = length (now (a .buffer)) in

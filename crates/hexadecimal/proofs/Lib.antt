@@ -1,0 +1,3 @@
+mod Ranges
+pub mod Inverse
+mod OneAnswer
