@@ -217,7 +217,7 @@ struct samopute_reading; /* below */
  *
  * Refusals 7 and 8 touch neither padding nor readings.
  *
- * It is in a library of its own, libsamopute_run.a. samopute_decode is some three times as fast: where time counts,
+ * It is in a library of its own, libsamopute_run.a. samopute_decode takes two thirds of the time: where that counts,
  * lend it SAMOPUTE_READINGS, below, which is read as it is too.
  */
 uint32_t samopute_decode_run(const uint64_t *words, size_t word_count, const uint8_t *payload, size_t payload_length,

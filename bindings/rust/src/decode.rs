@@ -157,7 +157,7 @@ impl<'a> Decoded<'a> {
 /// Reads a payload by a table into a slice of records, which has room for as many readings as it is long. Records after the
 /// last reading stay as they were; refusals 7 and 8 leave all of them and the padding run so.
 ///
-/// It answers as [`Decoder::decode`], which is some three times as fast.
+/// It answers as [`Decoder::decode`], which takes two thirds of the time.
 ///
 /// ```
 /// use samopute::{decode_run, Field, Head, Kind, Record, Refusal, Table, PADDING_LENGTH};

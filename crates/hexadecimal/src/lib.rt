@@ -23,6 +23,7 @@ pub fn value_of(b: u8) -> u32
     if 9 < k && k < 17 {
         return NO_DIGIT;
     }
+    // Between 9 and A stand seven other bytes.
     k - k / 16 * 7
 }
 

@@ -34,7 +34,7 @@ module _ (t : Table) (received : List ℕ) where
       rw (h, ne-eqb (t .length) 0 (λ z. omega arith)) (sym (length-full received (t .length) (le-of-lt l)))
   by false h = rw h
 
-  -- of a call that no refusal spared the buffers, neither 7 nor 8, the second cell, or the bytes received where it is 0
+  -- unless the call was refused with a number that touches nothing, 7 or 8: the second cell, or the bytes received where it is 0
   pub working-length : (d : Decoded) → touchesNothing (decodedStatus d) ≡ false
       → lengthBy (getD (cellsOf t (length received) d) 1 0) (length received) ≡ length (workingOf t received)
   working-length d n =
