@@ -6,12 +6,16 @@ use Prim.Native.Nat.{ℕ}
 use mathlib.Core.List.{List}
 use lib.ListN.{length}
 use Rattle.bits.specs.Calls.{cursorAt, advanceOf, writtenOf, writeSliceOf, slicedOf}
+use Rattle.descriptor.specs.declared.FieldDescriptor.{FieldDescriptor}
+use Rattle.numbers.specs.Refusals.{numberOf}
+use Rattle.offers.specs.declared.Offer.{Offer}
 use Rattle.tables.specs.Table.{tableOf}
 use Rattle.reading.specs.declared.Decoded.{Decoded}
 use Rattle.reading.specs.Filling.{runAfter}
 use Rattle.records.specs.Into.{decodedInto, outAfter}
 use Rattle.records.specs.Pgn.{byPgnOf, outByPgn}
 use Rattle.samopute_c.specs.Answers.{Laid, ofMoved}
+use Rattle.samopute_c.specs.Values.{rawOffered, rawCells}
 use Rattle.samopute_c.specs.Decodes.{decodedStatus, cellsOf, pgnStatus, pgnCells}
 use Rattle.samopute_c.specs.Encodes.{encodedStatus, encodedCells, encodedBy, payloadAfter, statusByPgn, payloadByPgn, cellsByPgn}
 
@@ -28,6 +32,12 @@ abbrev pub WritesSlice : ℕ → List ℕ → List ℕ → List ℕ → ℕ → 
 WritesSlice r after answer buffer cursor source =
     Laid r answer cursor (ofMoved (writeSliceOf (length buffer) (cursorAt cursor) (length source)))
     × (after ≡ slicedOf buffer (cursorAt cursor) source)
+
+-- ## Numbers
+
+-- `samopute_raw_of`, of a field and what is offered to it: the status, the answer
+abbrev pub GivesRaw : ℕ → List ℕ → FieldDescriptor → Offer → Type 0
+GivesRaw r answer f offer = let x = rawOffered f offer in (r ≡ numberOf x) × (answer ≡ rawCells x)
 
 -- ## Decoding
 

@@ -1,9 +1,9 @@
 // The calls on numbers: from a raw to its value, and back.
 ghost use mathlib.Core.Path.{_≡_};
 ghost use mathlib.Core.List.{[], _∷_};
-ghost use Rattle.numbers.specs.Refusals.{numberOf};
 ghost use Rattle.offers.specs.Records.{offerOf};
-ghost use Rattle.samopute_c.specs.Values.{fieldOf, scaleStatus, scaledCells, scaleCells, rawOffered, rawCells};
+ghost use Rattle.samopute_c.specs.Contracts.{GivesRaw};
+ghost use Rattle.samopute_c.specs.Values.{fieldOf, scaleStatus, scaledCells, scaleCells};
 use crate::worded::field_of;
 use crate::worded::raw_of;
 use descriptor::FieldDescriptor;
@@ -73,7 +73,7 @@ pub extern "C" fn samopute_raw_of(
     value: u64,
     answer: &mut [u64; 3],
 ) -> u32
-    ensures { λ r. ⌜ (r ≡ numberOf (rawOffered (fieldOf kind width «is_signed» mark resolution) (offerOf «value_kind» value))) × (now (answer .exit) ≡ rawCells (rawOffered (fieldOf kind width «is_signed» mark resolution) (offerOf «value_kind» value))) ⌝ }
+    ensures { λ r. ⌜ GivesRaw r (now (answer .exit)) (fieldOf kind width «is_signed» mark resolution) (offerOf «value_kind» value) ⌝ }
 {
     let f = field_of(kind, width, is_signed, mark, resolution);
     match raw_of(f, offers::offer_of(value_kind, value)) {
