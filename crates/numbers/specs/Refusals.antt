@@ -1,4 +1,4 @@
--- The refusals of a number as document 01 counts them: "What each number means". Here no field has a number, so 10 and 11 carry nothing.
+-- The refusals of a number as document 01 counts them: "What each number means". A field has no place in a table here, so 10 and 11 carry nothing.
 use Prim.Native.Nat.{ℕ}
 use mathlib.Core.List.{List, [], _∷_}
 use Rattle.bits.specs.Calls.{widthMax}
