@@ -2,12 +2,18 @@
 # The boundary as C and Rust see it: the header, the library by itself, the C examples, hostile input, the stack that it
 # takes and the Rust crate. Wants libsamopute_c.a and libsamopute_run.a in target/staticlib (rt staticlib samopute_c,
 # rt staticlib samopute_run), or the folder of them in SAMOPUTE_LIB_DIR. Last line: 'N passed, M failed'.
+#
+# The library is for x86-64. On another processor C is compiled for x86-64 too, by Debian's g++-x86-64-linux-gnu, and run
+# under an emulator (tests/run.sh). Rust, which cannot be had for x86-64 there, and what the address checker watches, which
+# runs under no emulator, are compiled for the machine's own processor, and reach the library through tests/across.
 set -u
 cd "$(dirname "$0")/.." || exit 1
 folder=$(realpath -m "${SAMOPUTE_LIB_DIR:-target/staticlib}")
 libraries=("$folder/libsamopute_run.a" "$folder/libsamopute_c.a")
-cc=${CC:-gcc}
-cxx=${CXX:-g++}
+case $(uname -m) in x86_64) across='' ;; *) across=x86_64-linux-gnu- ;; esac
+cc=${CC:-${across}gcc}
+cxx=${CXX:-${across}g++}
+run=(sh tests/run.sh)
 work=$(mktemp -d)
 trap 'rm -rf "$work"' EXIT
 passed=0
@@ -333,19 +339,19 @@ header() {
     local suffix=c
     case $2 in -std=c++*) suffix=cpp ;; esac
     make_user >"$work/user.$suffix" &&
-        "$@" -Werror -I include "$work/user.$suffix" "${libraries[@]}" -o "$work/user" && "$work/user"
+        "$@" -Werror -I include "$work/user.$suffix" "${libraries[@]}" -o "$work/user" && "${run[@]}" "$work/user"
 }
 
 # The library's calls are those of the header, no more.
 same_calls() {
-    nm -g --defined-only "$work/all.o" | awk '{ print $3 }' | sort >"$work/there"
+    "${across}nm" -g --defined-only "$work/all.o" | awk '{ print $3 }' | sort >"$work/there"
     declared | diff - "$work/there"
 }
 
 # Nothing is wanted from elsewhere, but for what a compiler puts in for copies.
 wants_nothing() {
     local list
-    nm -u "$work/all.o" | awk '{ print $2 }' | sort >"$work/wanted"
+    "${across}nm" -u "$work/all.o" | awk '{ print $2 }' | sort >"$work/wanted"
     list=$(paste -s -d ' ' "$work/wanted")
     echo "wanted from elsewhere: ${list:-nothing}"
     ! grep -v -x -e memcpy -e memset -e memmove "$work/wanted"
@@ -353,14 +359,14 @@ wants_nothing() {
 
 # No section of some size is writable. (.data.rel.ro is: the loader alone writes it, once.)
 no_state() {
-    readelf -SW "$work/all.o" | sed -n 's/^ *\[ *[0-9]*\] //p' |
+    "${across}readelf" -SW "$work/all.o" | sed -n 's/^ *\[ *[0-9]*\] //p' |
         awk '$7 ~ /W/ && $5 !~ /^0+$/ && $1 !~ /^\.data\.rel\.ro/ { print "writable: " $1 " of 0x" $5; n++ } END { exit n > 0 }'
 }
 
 # example NAME: it prints what its file says.
 example() {
     "$cc" -std=c99 -Wall -Wextra -Wpedantic -Werror -I include "examples/c/$1.c" "${libraries[@]}" -o "$work/$1" &&
-        "$work/$1" >"$work/printed" && diff "$work/printed" "examples/c/$1.stdout"
+        "${run[@]}" "$work/$1" >"$work/printed" && diff "$work/printed" "examples/c/$1.stdout"
 }
 
 # built FLAGS.. -- PROGRAM ARGUMENTS..: builds tests/PROGRAM.c and runs it.
@@ -374,7 +380,14 @@ built() {
     "$cc" -std=c11 -Wall -Wextra -Wpedantic -Werror "${flags[@]}" "tests/$1.c" "${libraries[@]}" -o "$work/$1" || return 1
     local program=$1
     shift
-    "$work/$program" "$@"
+    "${run[@]}" "$work/$program" "$@"
+}
+
+# natively COMMAND..: one of the functions above, for the processor of this machine where it is not x86-64.
+natively() {
+    local cc=gcc run=()
+    local libraries=("$work/across/libsamopute_run.a" "$work/across/libsamopute_c.a")
+    "$@"
 }
 
 # The crate wants what its Cargo.toml names.
@@ -388,7 +401,9 @@ fit_cargo() {
 # The tests of the Rust crate, each counted.
 rust() {
     local status good bad
-    SAMOPUTE_LIB_DIR=$folder CARGO_TARGET_DIR=${CARGO_TARGET_DIR:-$work/cargo} \
+    local linked=$folder
+    if [ -n "$across" ]; then linked=$work/across; fi
+    SAMOPUTE_LIB_DIR=$linked SAMOPUTE_ACROSS=$across CARGO_TARGET_DIR=${CARGO_TARGET_DIR:-$work/cargo} \
         cargo test --offline --manifest-path bindings/rust/Cargo.toml >"$work/log" 2>&1
     status=$?
     good=$(grep -c '^test .* \.\.\. ok$' "$work/log")
@@ -413,16 +428,19 @@ for library in "${libraries[@]}"; do
     fi
 done
 
-if command -v ld >/dev/null && command -v nm >/dev/null && command -v readelf >/dev/null; then
-    test_of "the archives go together" ld -r --whole-archive "${libraries[@]}" -o "$work/all.o"
+if command -v "${across}ld" >/dev/null && command -v "${across}nm" >/dev/null && command -v "${across}readelf" >/dev/null; then
+    test_of "the archives go together" "${across}ld" -r --whole-archive "${libraries[@]}" -o "$work/all.o"
     test_of "the library wants nothing but itself" wants_nothing && told
     test_of "the library has no writable data" no_state
     test_of "the library has the calls of the header, no more" same_calls
 else
-    left_out "the library by itself" "no ld, nm or readelf is at hand"
+    left_out "the library by itself" "no ${across}ld, ${across}nm or ${across}readelf is at hand"
 fi
 
 if command -v "$cc" >/dev/null; then
+    if [ -n "$across" ]; then
+        test_of "the way to the library from this processor" sh tests/across/make.sh "$folder" "$work/across"
+    fi
     test_of "the header in C99" header "$cc" -std=c99 -Wall -Wextra -Wpedantic
     test_of "the header in C11" header "$cc" -std=c11 -Wall -Wextra -Wpedantic
     test_of "readings in place only where the low byte comes first" in_place_by_order
@@ -430,8 +448,8 @@ if command -v "$cc" >/dev/null; then
     test_of "the C example that reads in place" example in_place
     test_of "the C example that encodes" example encode
     test_of "hostile input, $rounds rounds" built -O2 -- hostile "$rounds" 1 && told
-    test_of "hostile input under the address checker, $checked_rounds rounds" \
-        built -O1 -g -fsanitize=address,undefined -fno-sanitize-recover=all -- hostile "$checked_rounds" 2 && told
+    test_of "hostile input under the address checker, $checked_rounds rounds${across:+, the library in another process}" \
+        ${across:+natively} built -O1 -g -fsanitize=address,undefined -fno-sanitize-recover=all -- hostile "$checked_rounds" 2 && told
     test_of "the stack of each call" built -O2 -- stack "$stack_rounds" 1 "$stack_limit" && told
 else
     left_out "the boundary from C" "no $cc is at hand"
@@ -443,9 +461,11 @@ else
     left_out "the boundary from C++" "no $cxx is at hand"
 fi
 
-if fit_cargo; then
-    rust
-else
+if ! fit_cargo; then
     left_out "the Rust crate" "no cargo with rustc 1.87 or newer is at hand"
+elif [ -n "$across" ] && [ ! -f "$work/across/libsamopute_run.a" ]; then
+    left_out "the Rust crate" "tests/across/make.sh made no library for this processor"
+else
+    rust
 fi
 finish

@@ -15,6 +15,7 @@
  */
 #define _GNU_SOURCE
 #include <inttypes.h>
+#include <setjmp.h>
 #include <signal.h>
 #include <stdio.h>
 #include <stdlib.h>
@@ -182,6 +183,42 @@ static void open_arenas(void)
     for (i = 0; i < NOISE_LENGTH; i++) {
         noise[i] = (uint8_t)draw(&d);
     }
+}
+
+static sigjmp_buf back;
+
+static void on_touch(int signal)
+{
+    (void)signal;
+    siglongjmp(back, 1);
+}
+
+/* Whether a touch of a byte is a fault, which ends the run if it comes of a call. */
+static int faults(const volatile uint8_t *byte)
+{
+    if (sigsetjmp(back, 1) != 0) {
+        return 1;
+    }
+    (void)*byte;
+    return 0;
+}
+
+/*
+ * The guards are tried first: where one may be touched, a run would say little. (An emulator of a processor with smaller
+ * pages than the machine's own cannot keep each of them from being touched.)
+ */
+static void try_guards(void)
+{
+    struct sigaction on, off;
+    size_t i;
+    memset(&on, 0, sizeof on);
+    on.sa_handler = on_touch;
+    sigaction(SIGSEGV, &on, &off);
+    for (i = 0; i < ARENAS; i++) {
+        hold(faults(arenas[i].first - 1) && faults(arenas[i].first + arenas[i].size), "a guard may be touched");
+        hold(!faults(arenas[i].first) && !faults(arenas[i].first + arenas[i].size - 1), "an arena may not be touched");
+    }
+    sigaction(SIGSEGV, &off, NULL);
 }
 
 /* Lends `length` bytes that hold those of `from`. With no length, sometimes no address either. */
@@ -1347,6 +1384,7 @@ int main(int argc, char **argv)
     rounds = strtoull(argv[1], NULL, 10);
     seed = strtoull(argv[2], NULL, 10);
     open_arenas();
+    try_guards();
     catch_signals();
     run(rounds, argc == 4 ? strtoull(argv[3], NULL, 10) : 0);
     tell_counts("decodes", decoded);

@@ -10,9 +10,12 @@ trap 'rm -rf "$work"' EXIT
 passed=0
 failed=0
 
+# run NAME: a built program.
+run() { sh tests/run.sh "target/bin/$1"; }
+
 # same NAME: what $program writes for $work/in is $work/wanted, byte for byte.
 same() {
-    "target/bin/$program" <"$work/in" >"$work/got" || echo "exit status $?" >>"$work/got"
+    run "$program" <"$work/in" >"$work/got" || echo "exit status $?" >>"$work/got"
     wrote "$1"
 }
 
@@ -66,7 +69,7 @@ for program in bitcalls numbercalls tablecalls samopute readcalls compose; do
     # samopute digests a line of any length, and these are digits: it is 15 there, not 14.
     case $program in samopute) long='F 15 AAAAAA' ;; *) long='F 14' ;; esac
     { head -c 70000 /dev/zero | tr '\0' A; echo; head -n 1 "$list/stdin"; } >"$work/in"
-    { echo "$long"; "target/bin/$program" <<<"$(head -n 1 "$list/stdin")"; } >"$work/wanted"
+    { echo "$long"; run "$program" <<<"$(head -n 1 "$list/stdin")"; } >"$work/wanted"
     same "a line of 70,000 bytes is answered once, and the next starts clean"
 
     # Every byte value: each line is malformed, and there is one answer for each.
@@ -81,13 +84,13 @@ for program in bitcalls numbercalls tablecalls samopute readcalls compose; do
 
     # The output fails, in the middle of answers that take several lines too: it is told once.
     if [ -w /dev/full ]; then
-        "target/bin/$program" <"$work/in" 2>"$work/err" >/dev/full
+        run "$program" <"$work/in" 2>"$work/err" >/dev/full
         told "a full device is told on standard error" 'standard output: No space left on device'
     fi
-    "target/bin/$program" <<<'' 2>"$work/err" >&-
+    run "$program" <<<'' 2>"$work/err" >&-
     told "a closed standard output is told on standard error" 'standard output: Bad file descriptor'
 
-    "target/bin/$program" <"$work" 2>"$work/err" >"$work/got"
+    run "$program" <"$work" 2>"$work/err" >"$work/got"
     told "a directory as standard input is told on standard error" 'standard input: Is a directory'
 
     # A whole line and a part of one in a pipe that does not wait (dd sets that): the second read fails.
@@ -95,7 +98,7 @@ for program in bitcalls numbercalls tablecalls samopute readcalls compose; do
     exec 3<>"$work/pipe"
     dd iflag=nonblock count=0 status=none <&3
     printf '\n01F802' >&3
-    "target/bin/$program" <&3 2>"$work/err" >"$work/got"
+    run "$program" <&3 2>"$work/err" >"$work/got"
     exec 3>&-
     rm "$work/pipe"
     printf 'F 14\n' >"$work/wanted"
@@ -104,7 +107,7 @@ for program in bitcalls numbercalls tablecalls samopute readcalls compose; do
 
     # Two lines one after the other, and no end: each is answered before the program waits for the next.
     (
-        coproc "target/bin/$program"
+        coproc run "$program"
         for _ in 1 2; do
             echo >&"${COPROC[1]}"
             IFS= read -r -t 10 answer <&"${COPROC[0]}" || break
@@ -133,7 +136,7 @@ same "223 bytes are read, 224 are refused"
 # A frame whose lines cross the edge of the output buffer, at every place of it: nothing is lost or cut there.
 frame=$(grep -m 1 '^01F805.\{446\}$' crates/samopute/stdin)
 printf '%s\n' "$frame" >"$work/one"
-target/bin/samopute <"$work/one" >"$work/lines"
+run samopute <"$work/one" >"$work/lines"
 for n in $(seq 0 40); do
     for _ in $(seq "$n"); do echo; done
     for _ in $(seq 20); do printf '%s\n' "$frame"; done
@@ -155,7 +158,7 @@ same "lines of 8,192 bytes and of one more"
 
 # 1,741 readings to a case: a counter, and a set of 60 fields of one bit with its 29 elements.
 { printf '9999 223 1003D,800'; for _ in $(seq 60); do printf ',100'; done; printf ',1E0000003C0001 1D'; digits 444; echo; } >"$work/one"
-target/bin/readcalls <"$work/one" >"$work/lines"
+run readcalls <"$work/one" >"$work/lines"
 if [ "$(wc -l <"$work/lines")" -eq 1743 ] && [ "$(tail -n 2 "$work/lines" | tr '\n' ' ')" = 'E 1748 1741 D - ' ]; then
     passed=$((passed + 1))
     echo "ok $program: a case of 1,741 readings"
@@ -194,7 +197,7 @@ same "each line starts clean"
 
 # What compose writes samopute reads: 4,096 courses and speeds, whose raws are known, and a position with two stations.
 LC_ALL=C awk 'BEGIN { for (i = 0; i < 4096; i++) printf "01F802 u%d u%d f%.4f f%.2f\n", i % 256, i % 4, (i * 16 + 15) / 10000, (65535 - i * 16) / 100 }' |
-    target/bin/compose >"$work/in"
+    run compose >"$work/in"
 LC_ALL=C awk 'function n(raw, none) { return raw == none ? "N" : "A" }
     BEGIN { for (i = 0; i < 4096; i++) {
         print "P 01F802 8"
@@ -203,7 +206,7 @@ LC_ALL=C awk 'function n(raw, none) { return raw == none ? "N" : "A" }
     } }' >"$work/wanted"
 program=samopute
 same "frames that compose has made: 4,096 of 129026"
-echo '01F805 u1 u20000 f43200 f0 f0 f0 u0 u1 u1 u12 f1.2 f-0.01 f0 u2 u3 u2748 f5 u1 u0 f655.35' | target/bin/compose >"$work/in"
+echo '01F805 u1 u20000 f43200 f0 f0 f0 u0 u1 u1 u12 f1.2 f-0.01 f0 u2 u3 u2748 f5 u1 u0 f655.35' | run compose >"$work/in"
 cat >"$work/wanted" <<'END'
 P 01F805 51
 R 0 - 0 8 A 1
@@ -236,7 +239,7 @@ program=compose
 { echo "01F802 $fault"; echo "T 6,800,202,60F,38D1B71702001000,3C23D70A02001000,100F 8 $fault"; } >"$work/in"
 printf 'F 10 4\nF 10 4\nD 2AFC5C3DFFFFFFFF\n' >"$work/wanted"
 same "7,600 m/s in 16 bits at 0.01"
-target/bin/compose <"$work/in" | sed -n 's/^D /01F802/p' >"$work/frame"
+run compose <"$work/in" | sed -n 's/^D /01F802/p' >"$work/frame"
 mv "$work/frame" "$work/in"
 printf 'P 01F802 8\nR 0 - 0 8 A 2A\nR 1 - 8 2 A 0\nR 3 - 16 16 A 3D5C\nR 4 - 32 16 N FFFF\nE 64\n' >"$work/wanted"
 program=samopute

@@ -1,4 +1,5 @@
 //! Links the static libraries, which `rt` builds at the root of the repository. `SAMOPUTE_LIB_DIR` names another folder.
+//! `SAMOPUTE_ACROSS`, for the tests alone, says that those in it are for another processor than x86-64 (tests/across).
 use std::env;
 use std::path::PathBuf;
 
@@ -16,6 +17,11 @@ fn folder() -> PathBuf {
 fn main() {
     let folder = folder();
     println!("cargo::rerun-if-env-changed=SAMOPUTE_LIB_DIR");
+    println!("cargo::rerun-if-env-changed=SAMOPUTE_ACROSS");
+    println!("cargo::rustc-check-cfg=cfg(samopute_across)");
+    if env::var_os("SAMOPUTE_ACROSS").is_some_and(|word| !word.is_empty()) {
+        println!("cargo::rustc-cfg=samopute_across");
+    }
     println!("cargo::rustc-link-search=native={}", folder.display());
     for name in LIBRARIES {
         let archive = folder.join(format!("lib{name}.a"));
