@@ -2,13 +2,12 @@
 use crate::cases::SEED;
 use crate::random::Random;
 use crate::samopute;
+use crate::timing::{self, ROUNDS, timed};
 use korri_n2k::error::{BitReaderError, BitWriterError};
 use korri_n2k::infra::codec::bits::{BitReader, BitWriter};
 use std::hint::black_box;
-use std::time::Instant;
 
 const FIELDS: usize = 1_000_000;
-const ROUNDS: usize = 15;
 const LENGTHS: [usize; 2] = [223, 65_536];
 
 struct Field {
@@ -49,23 +48,16 @@ fn print_times(call: &str, length: usize, [ours, apart, inlined]: [f64; 3]) {
     );
 }
 
-/// The least time of each work, in ns a field. The works take turns, so that a slow spell of the
-/// machine hits all; the first turn only warms up. Their sums have to agree.
+/// The least time of each work, in ns a field. Their sums have to agree.
 fn fastest(mut works: [&mut dyn FnMut() -> u64; 3]) -> [f64; 3] {
-    let mut least = [f64::INFINITY; 3];
-    for round in 0..=ROUNDS {
-        let sums = std::array::from_fn::<u64, 3, _>(|i| {
-            let start = Instant::now();
-            let sum = black_box(works[i]());
-            let time = start.elapsed().as_nanos() as f64 / FIELDS as f64;
-            if round > 0 {
-                least[i] = least[i].min(time);
-            }
-            sum
-        });
-        assert!(sums.iter().all(|&sum| sum == sums[0]), "the sides differ");
-    }
-    least
+    timing::fastest(|| {
+        let rounds = works.each_mut().map(timed);
+        assert!(
+            rounds.iter().all(|(_, sum)| *sum == rounds[0].1),
+            "the sides differ"
+        );
+        rounds.map(|(time, _)| time / FIELDS as f64)
+    })
 }
 
 /// Fields at any cursor at which they fit.

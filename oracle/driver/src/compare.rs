@@ -1,8 +1,10 @@
 //! The comparison of bit calls. Each test is one call of one side against another, over one set of cases.
 use crate::case::{Call, Case, Raw, hex};
 use crate::cases::{SEED, any_case, any_length, exhaustive};
+use crate::pair::Pair;
 use crate::random::Random;
 use crate::report::Report;
+use crate::tally::{Printed, Tally};
 use crate::{carried, sides};
 
 /// Random cases of each call.
@@ -51,17 +53,21 @@ struct Trio {
     buffers: [Vec<u8>; 3],
 }
 
+type Test = Tally<Printed<[usize; 3]>>;
+
 impl Trio {
     fn new(call: Call, set: &str, long: bool) -> Trio {
-        let name = call.name();
+        let test = |pair: Pair| {
+            let is_long = long && pair == Pair::OursModel && call != Call::BitsRemaining;
+            let refusals = call.refusals().iter().copied();
+            let wanted = [0].into_iter().chain(refusals);
+            let name = format!("{}, {set}", pair.name(call.name()));
+            Test::numbered(name, wanted.chain(is_long.then_some(TOO_LONG)))
+        };
         Trio {
-            ours_rust: Test::new(format!("{name} against the Rust, {set}"), call, false),
-            ours_model: Test::new(format!("{name} against the model, {set}"), call, long),
-            model_rust: Test::new(
-                format!("the model's {name} against the Rust, {set}"),
-                call,
-                false,
-            ),
+            ours_rust: test(Pair::OursRust),
+            ours_model: test(Pair::OursModel),
+            model_rust: test(Pair::ModelRust),
             buffers: Default::default(),
         }
     }
@@ -75,17 +81,17 @@ impl Trio {
         let from_model = sides::model(case, model);
         let ours = Side("ours", from_ours, ours);
         let model = Side("model", from_model, model);
-        self.ours_model.compare(case, &ours, &model);
+        compare(&mut self.ours_model, case, &ours, &model);
         if let Some(answer) = sides::rust(case, rust) {
             let rust = Side("Rust", answer.raw(), rust);
-            self.ours_rust.compare(case, &ours, &rust);
-            self.model_rust.compare(case, &model, &rust);
+            compare(&mut self.ours_rust, case, &ours, &rust);
+            compare(&mut self.model_rust, case, &model, &rust);
         }
     }
 
     fn report(self, report: &mut Report) {
         for test in [self.ours_rust, self.ours_model, self.model_rust] {
-            report.line(&test.name, test.outcome());
+            test.report(report);
         }
     }
 }
@@ -93,67 +99,12 @@ impl Trio {
 /// A side's name, its answer, and its buffer after the call.
 struct Side<'a>(&'static str, Raw, &'a [u8]);
 
-struct Test {
-    name: String,
-    /// The outcomes that have to be met, or the test shows nothing: 0 and refusals.
-    wanted: Vec<u32>,
-    met: [usize; 7],
-    differing: usize,
-    smallest: Option<Difference>,
-}
-
-/// A case on which two sides differ, its size, and how it is printed.
-struct Difference {
-    size: [usize; 3],
-    text: String,
-}
-
-impl Test {
-    fn new(name: String, call: Call, long: bool) -> Test {
-        let mut wanted = vec![0];
-        wanted.extend(call.refusals());
-        if long && call != Call::BitsRemaining {
-            wanted.push(TOO_LONG);
-        }
-        Test {
-            name,
-            wanted,
-            met: [0; 7],
-            differing: 0,
-            smallest: None,
-        }
-    }
-
-    /// The second side is the one that the first is held against.
-    fn compare(&mut self, case: &Case, side: &Side, against: &Side) {
-        self.met[against.1.number as usize] += 1;
-        if side.1 == against.1 && side.2 == against.2 {
-            return;
-        }
-        self.differing += 1;
+/// The second side is the one that the first is held against.
+fn compare(test: &mut Test, case: &Case, side: &Side, against: &Side) {
+    test.meet(against.1.number as usize);
+    if side.1 != against.1 || side.2 != against.2 {
         let size = [case.buffer.len(), case.cursor, case.count];
-        if self.smallest.as_ref().is_none_or(|known| size < known.size) {
-            let text = difference(case, side, against);
-            self.smallest = Some(Difference { size, text });
-        }
-    }
-
-    fn outcome(&self) -> Result<String, String> {
-        let cases: usize = self.met.iter().sum();
-        if let Some(smallest) = &self.smallest {
-            let differing = self.differing;
-            let text = &smallest.text;
-            return Err(format!(
-                "{differing} of {cases} cases differ, such as{text}"
-            ));
-        }
-        if let Some(number) = self.wanted.iter().find(|&&n| self.met[n as usize] == 0) {
-            return Err(format!("no case with outcome {number}"));
-        }
-        let outcomes: Vec<String> = (self.wanted.iter())
-            .map(|&number| format!("{number}: {}", self.met[number as usize]))
-            .collect();
-        Ok(format!("{cases} cases ({})", outcomes.join(", ")))
+        (test.differing).add_printed(size, || difference(case, side, against));
     }
 }
 

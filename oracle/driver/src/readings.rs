@@ -1,5 +1,6 @@
 //! Readings: a payload read by a table.
 pub mod answer;
+mod asked;
 pub mod bench;
 pub mod boundary;
 pub mod by_hand;
@@ -19,13 +20,14 @@ pub mod oracles;
 mod parsed;
 pub mod payloads;
 pub mod program;
+pub mod refusal;
 pub mod sample;
 mod sides;
-pub mod small_tables;
 pub mod smallest;
-mod test;
 pub mod told;
+mod worked;
 mod worked_papers;
+mod worked_refusals;
 mod worked_sets;
 mod worked_texts;
 mod worked_walks;

@@ -1,9 +1,8 @@
 //! The sample: a fixed list of cases and the Rust's answers, to be replayed without Rust.
 use crate::case::{Answer, Call, Case, Size, hex};
-use crate::cases::{SEED, any_case};
-use crate::random::Random;
+use crate::cases::any_case;
+use crate::sampled::Sampled;
 use crate::sides;
-use std::collections::HashSet;
 
 /// Random cases of each call.
 const EACH: usize = 230;
@@ -12,40 +11,38 @@ const EACH: usize = 230;
 const LONGEST: usize = 40;
 
 pub fn print_cases() {
-    for (case, _, _) in sample() {
+    for (case, _) in sample() {
         println!("{}", case.line());
     }
 }
 
 pub fn print_answers() {
-    for (case, answer, after) in sample() {
-        println!("{}", answer_line(&case, &answer, &after));
+    for (case, told) in sample() {
+        println!("{}", answer_line(&case, &told));
     }
 }
 
-/// The cases, the Rust's answers and its buffers after the calls.
-fn sample() -> Vec<(Case, Answer, Vec<u8>)> {
-    let mut taken = papers();
-    let mut random = Random::new(SEED);
-    let mut known: HashSet<String> = taken.iter().map(|(case, ..)| case.line()).collect();
+/// The Rust's answer, and its buffer after the call.
+type Told = (Answer, Vec<u8>);
+
+fn sample() -> Vec<(Case, Told)> {
+    let mut sample = Sampled::new(Case::line);
+    for case in papers() {
+        let told = ask(&case).expect("the Rust answers the paper's cases");
+        sample.take(case, told);
+    }
     for call in Call::ALL {
         for (outcome, share) in shares(call) {
-            let mut left = share;
-            while left > 0 {
+            sample.draw(share, |random| {
                 let length = random.up_to(LONGEST);
-                let case = any_case(call, length, &mut random);
-                let Some((answer, after)) = ask(&case) else {
-                    continue;
-                };
-                let short = case.source.len() <= LONGEST + 3;
-                if answer.raw().number == outcome && short && known.insert(case.line()) {
-                    taken.push((case, answer, after));
-                    left -= 1;
-                }
-            }
+                let case = any_case(call, length, random);
+                let told = ask(&case)?;
+                let fits = told.0.raw().number == outcome && case.source.len() <= LONGEST + 3;
+                fits.then_some((case, told))
+            });
         }
     }
-    taken
+    sample.taken
 }
 
 /// How many cases of a call end in each outcome: half are accepted, the refusals share the rest.
@@ -61,7 +58,7 @@ fn shares(call: Call) -> Vec<(u32, usize)> {
 }
 
 /// The cases of bit calls that document 01 gives.
-fn papers() -> Vec<(Case, Answer, Vec<u8>)> {
+fn papers() -> [Case; 4] {
     let case = |call, buffer: &[u8], cursor, count, value| Case {
         buffer: buffer.to_vec(),
         cursor,
@@ -75,22 +72,16 @@ fn papers() -> Vec<(Case, Answer, Vec<u8>)> {
         case(Call::ReadSlice, &[0xF0, 0x1F], 24, 0, 0),
         case(Call::Write(Size::U64), &[0x00, 0x00], 6, 3, 13),
     ]
-    .into_iter()
-    .map(|case| {
-        let (answer, after) = ask(&case).expect("the Rust answers the paper's cases");
-        (case, answer, after)
-    })
-    .collect()
 }
 
-fn ask(case: &Case) -> Option<(Answer, Vec<u8>)> {
+fn ask(case: &Case) -> Option<Told> {
     let mut buffer = case.buffer.clone();
     let answer = sides::rust(case, &mut buffer)?;
     Some((answer, buffer))
 }
 
 /// `ok CURSOR ...` or `F NUMBER CARRIED...`, and the buffer after a write.
-fn answer_line(case: &Case, answer: &Answer, after: &[u8]) -> String {
+fn answer_line(case: &Case, (answer, after): &Told) -> String {
     let mut line = match answer.outcome {
         Ok(values) => format!("ok {}{}", answer.cursor, accepted(case, values)),
         Err(refusal) => {

@@ -1,6 +1,7 @@
 //! What the calls on numbers do not reach of the stand-ins, held against answers worked out by hand from
 //! document 01: texts and bytes written, skipped fields, and the walk around sets and last fields.
 use crate::case::hex;
+use crate::oracle_types::standin::{described, leaked};
 use crate::report::Report;
 use standin::core::{
     Availability, FieldDescriptor, FieldKind, PgnBytes, PgnDescriptor, PgnValue, RepeatingFieldSet,
@@ -14,44 +15,6 @@ pub fn run(report: &mut Report) {
     report.line("whole-field refusals of the stand-ins", refused_texts());
     report.line("skipped fields written by the stand-ins", skipped());
     report.line("the stand-ins' walk", walks());
-}
-
-fn field(kind: FieldKind, width: Option<u32>) -> FieldDescriptor {
-    FieldDescriptor {
-        id: "field",
-        name: "",
-        kind,
-        bits_length: width,
-        bits_length_var: None,
-        bits_offset: None,
-        is_signed: None,
-        resolution: None,
-        enum_direct_name: None,
-        enum_indirect_name: None,
-        enum_indirect_field_order: None,
-        physical_unit: None,
-        physical_qtity: None,
-        unknown_value: None,
-        out_of_range_value: None,
-        reserved_value: None,
-    }
-}
-
-fn table(fields: Vec<FieldDescriptor>, sets: Vec<RepeatingFieldSet>) -> &'static PgnDescriptor {
-    Box::leak(Box::new(PgnDescriptor {
-        id: 0,
-        name: "",
-        description: "",
-        priority: None,
-        fastpacket: false,
-        length: None,
-        min_length: None,
-        field_count: None,
-        trans_interval: None,
-        trans_irregular: None,
-        fields: fields.leak(),
-        repeating_field_sets: sets.leak(),
-    }))
 }
 
 /// A message that gives a number to Number fields, which are called "number", and bytes to others.
@@ -76,16 +39,20 @@ impl FieldAccess for Message<'_> {
 /// bytes used, or the refusal with what it carries; then the buffer.
 fn written(before: u32, (kind, width): (FieldKind, u32), bytes: &[u8], room: usize) -> String {
     let width = (width > 0).then_some(width);
-    let mut fields = vec![field(kind, width)];
+    let mut fields = vec![described(kind, width)];
     if before > 0 {
         let number = FieldDescriptor {
             id: "number",
-            ..field(FieldKind::Number, Some(before))
+            ..described(FieldKind::Number, Some(before))
         };
         fields.insert(0, number);
     }
     let mut buffer = vec![0; room];
-    let outcome = serialize(&Message(bytes), &mut buffer, table(fields, Vec::new()));
+    let outcome = serialize(
+        &Message(bytes),
+        &mut buffer,
+        leaked(fields, Vec::new(), [None; 2]),
+    );
     let outcome = match outcome {
         Ok(used) => format!("ok {used}"),
         Err(error) => refusal(error),
@@ -211,7 +178,7 @@ fn read(table: &'static PgnDescriptor, payload: &[u8]) -> String {
 
 /// A counter of 8 bits, a set of one field of 32, and one more field of 8 behind it.
 fn counted(max_repetitions: usize) -> &'static PgnDescriptor {
-    let fields = [8, 32, 8].map(|width| field(FieldKind::Number, Some(width)));
+    let fields = [8, 32, 8].map(|width| described(FieldKind::Number, Some(width)));
     let set = RepeatingFieldSet {
         array_id: "set",
         count_field_index: Some(0),
@@ -219,11 +186,12 @@ fn counted(max_repetitions: usize) -> &'static PgnDescriptor {
         size: 1,
         max_repetitions,
     };
-    table(fields.into(), vec![set])
+    leaked(fields.into(), vec![set], [None; 2])
 }
 
 fn one(kind: FieldKind, width: u32) -> &'static PgnDescriptor {
-    table(vec![field(kind, (width > 0).then_some(width))], Vec::new())
+    let width = (width > 0).then_some(width);
+    leaked(vec![described(kind, width)], Vec::new(), [None; 2])
 }
 
 fn walks() -> Result<String, String> {

@@ -1,5 +1,6 @@
 //! Writings: values written by a table, through the C interface of the library.
 mod answer;
+mod asked;
 mod by_hand;
 mod call;
 mod case;
@@ -20,9 +21,8 @@ pub mod records;
 mod rust_only;
 mod sides;
 mod smallest;
-mod test;
-mod unknown;
 mod values;
+mod worked;
 mod worked_records;
 mod worked_refusals;
 mod worked_walks;

@@ -1,10 +1,10 @@
 //! A fixed list of lines for the printing program: document 01's frame, then for each built-in message
 //! good, short, damaged and hostile payloads, then lines that are 14 and 15.
-use super::built_in;
 use crate::case::hex;
 use crate::cases::SEED;
 use crate::random::Random;
 use crate::readings::payloads::{damaged, made, sized};
+use crate::tables::built_in::by_pgn;
 use model::tables::{PAYLOAD_MAX, Table};
 use std::collections::HashSet;
 
@@ -19,9 +19,10 @@ const VERY_LONG: usize = 1100;
 pub fn all() -> Vec<String> {
     let mut random = Random::new(SEED);
     let mut all = vec!["01F8022AFC5C3DC098FFFF".to_string()];
-    for (pgn, table) in built_in() {
+    for (pgn, table) in by_pgn() {
+        let pgn = format!("{pgn:06X}");
         let payloads = payloads(&table, &mut random);
-        all.extend(payloads.iter().map(|payload| line(pgn, payload)));
+        all.extend(payloads.iter().map(|payload| line(&pgn, payload)));
     }
     all.extend(crowded(&mut random));
     all.extend(malformed());

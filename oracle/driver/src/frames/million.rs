@@ -1,5 +1,6 @@
 //! A million frames to time the printing program with: a quarter of each built-in message, 129029 with 0,
 //! 2 or 10 stations, values as a receiver sends them, the same at every run.
+use super::is_done;
 use crate::case::hex;
 use crate::cases::SEED;
 use crate::random::Random;
@@ -12,13 +13,7 @@ const STATIONS: [usize; 3] = [0, 2, 10];
 /// Prints the frames. True if all could be printed.
 pub fn print() -> bool {
     let mut out = BufWriter::new(stdout().lock());
-    match put_all(&mut out).and_then(|()| out.flush()) {
-        Ok(()) => true,
-        Err(error) => {
-            eprintln!("{error}");
-            false
-        }
-    }
+    is_done(put_all(&mut out).and_then(|()| out.flush()))
 }
 
 fn put_all(out: &mut impl Write) -> io::Result<()> {

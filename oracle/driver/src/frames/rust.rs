@@ -3,8 +3,9 @@
 //! which names no field in 1 to 4.
 pub mod row;
 
-use super::PGN;
+use super::{PGN, is_done};
 use crate::readings::oracles::rust::{Asked, refused};
+use crate::tables::built_in::by_pgn;
 use korri_n2k::core::{Availability, FieldDescriptor, PgnDescriptor};
 use korri_n2k::infra::codec::engine::{FieldReading, for_each_field};
 use model::tables::PAYLOAD_MAX;
@@ -23,13 +24,7 @@ type Put = fn(&mut Out, &Row) -> io::Result<()>;
 /// Answers standard input. True if all could be read and printed.
 pub fn print(put: Put) -> bool {
     let mut out = BufWriter::with_capacity(BUFFER, stdout().lock());
-    match answer(&mut stdin().lock(), &mut out, put).and_then(|()| out.flush()) {
-        Ok(()) => true,
-        Err(error) => {
-            eprintln!("{error}");
-            false
-        }
-    }
+    is_done(answer(&mut stdin().lock(), &mut out, put).and_then(|()| out.flush()))
 }
 
 fn answer(input: &mut impl BufRead, out: &mut Out, put: Put) -> io::Result<()> {
@@ -101,12 +96,8 @@ struct Message {
 }
 
 fn messages() -> Vec<Message> {
-    let tables = super::built_in().into_iter();
-    let message = |(pgn, table): (&str, _)| {
-        let pgn = number(pgn.as_bytes()).expect("six digits");
-        Message::new(pgn, Asked::new(&table).descriptor())
-    };
-    tables.map(message).collect()
+    let message = |(pgn, table)| Message::new(pgn, Asked::new(&table).descriptor());
+    by_pgn().map(message).collect()
 }
 
 impl Message {

@@ -1,42 +1,17 @@
 //! Any fields, as the interface takes them: of every kind and of none, of every width and of widths that
 //! no number has, with every mark. Those that the table rules allow are among them.
-use super::case::{Call, VALUE_KINDS, field_of, value_code};
+use super::case::{Call, field_of};
 use super::cases::Amount;
+use super::value_kinds::{VALUE_KINDS, is_value, value_code};
 use super::values::values;
 use crate::random::Random;
 use crate::samopute::CField;
-use crate::writings::records::is_value;
 use model::numbers::{Field, Value};
 
 /// The codes of the kinds, those beyond the last, and those that a cut to fewer bits would make a kind.
-pub const CODES: [u32; 26] = [
-    0,
-    1,
-    2,
-    3,
-    4,
-    5,
-    6,
-    7,
-    8,
-    9,
-    10,
-    11,
-    12,
-    13,
-    14,
-    15,
-    16,
-    17,
-    18,
-    19,
-    20,
-    255,
-    256,
-    257,
-    65_536,
-    u32::MAX,
-];
+pub fn codes() -> impl Iterator<Item = u32> {
+    (0..=20).chain([255, 256, 257, 65_536, u32::MAX])
+}
 
 /// Widths over 64: beside the limits of other rules, and those that a cut to fewer bits would mend.
 const WIDE: [u32; 25] = [

@@ -1,6 +1,8 @@
 //! A call on numbers with its inputs, and what a side answers to it.
+use super::value_kinds::{value_code, value_name};
 use crate::samopute::CField;
-use model::numbers::{Field, NAN_32, NAN_64, Refusal, Scaled, Value, ValueKind, scale_of};
+use crate::tally::OUTCOMES;
+use model::numbers::{Field, Refusal, Scaled, Value, ValueKind, scale_of};
 use model::tables::{KINDS, kind_of};
 
 #[derive(Clone, Copy, Debug, PartialEq)]
@@ -32,9 +34,6 @@ pub struct Answer {
     pub number: u32,
     pub values: [u64; 4],
 }
-
-/// One more than the largest outcome.
-pub const OUTCOMES: usize = 32;
 
 /// The outcome of an answer: a value's kind by its code or, of a raw, 0.
 const REFUSED: usize = 20;
@@ -109,46 +108,6 @@ impl Answer {
             (1, _) => format!("F 1 {first} {second}"),
             (number, _) => format!("F {number}"),
         }
-    }
-}
-
-/// The kind of a value as the C interface numbers it.
-pub fn value_code(kind: ValueKind) -> u32 {
-    kind as u32 + 1
-}
-
-fn value_name(code: u64) -> String {
-    match VALUE_KINDS
-        .iter()
-        .find(|&&kind| u64::from(value_code(kind)) == code)
-    {
-        Some(kind) => format!("{kind:?}"),
-        None => format!("kind {code}"),
-    }
-}
-
-pub const VALUE_KINDS: [ValueKind; 11] = [
-    ValueKind::U64,
-    ValueKind::U32,
-    ValueKind::U16,
-    ValueKind::U8,
-    ValueKind::I64,
-    ValueKind::I32,
-    ValueKind::I16,
-    ValueKind::I8,
-    ValueKind::F64,
-    ValueKind::F32,
-    ValueKind::Bytes,
-];
-
-/// Whether a value is a NaN with other bits than the interface passes for it.
-pub fn is_odd_nan(value: Value) -> bool {
-    match value.kind {
-        ValueKind::F32 => {
-            f32::from_bits(value.bits as u32).is_nan() && value.bits != u64::from(NAN_32)
-        }
-        ValueKind::F64 => f64::from_bits(value.bits).is_nan() && value.bits != NAN_64,
-        _ => false,
     }
 }
 

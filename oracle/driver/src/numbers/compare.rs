@@ -1,15 +1,18 @@
 //! The comparison on numbers. Each test is one side against another, over every case of one call on
 //! fields of one kind: fields that the table rules allow, of all sides; any fields, of ours and the model.
-use super::any_fields::{self, CODES, Calls};
-use super::case::{Answer, Call, Case, OUTCOMES, kind_name, outcome_name, refused, value_code};
+use super::any_fields::{self, Calls};
+use super::case::{Answer, Call, Case, kind_name, outcome_name, refused};
 use super::cases::{Amount, KINDS, fields, raws};
-use super::differences::{LeftOut, Reason, reason};
+use super::differences::{Reason, reason};
 use super::oracles;
 use super::sides::{self, Asked};
+use super::value_kinds::value_code;
 use super::values::values;
 use crate::cases::SEED;
+use crate::pair::Pair;
 use crate::random::Random;
 use crate::report::Report;
+use crate::tally::{Differing, LeftOut, Printed, Tally};
 use model::numbers::{self, Field, Kind, ValueKind};
 use model::tables::kind_of;
 
@@ -32,11 +35,10 @@ pub fn run(quick: bool, report: &mut Report) {
     for kind in KINDS {
         compare_kind(kind, amount, &mut random, &mut left_out, report);
     }
-    for reason in Reason::ALL {
-        let name = format!("left out with the Rust, {}", reason.text());
-        report.line(&name, left_out.outcome(reason));
-    }
-    for code in CODES {
+    left_out.report("left out with the Rust", report, |_, (_, text)| {
+        text.clone()
+    });
+    for code in any_fields::codes() {
         compare_any(code, amount, &mut random, report);
     }
 }
@@ -44,10 +46,10 @@ pub fn run(quick: bool, report: &mut Report) {
 /// Any fields of a kind, by its code.
 fn compare_any(code: u32, amount: Amount, random: &mut Random, report: &mut Report) {
     let kind = kind_of(code as usize);
+    let name = kind_name(code);
     let test = |call: &str, wanted| {
-        let name = kind_name(code);
-        let name = format!("{call} any field of kind {name} against the model");
-        Test::new(name, wanted)
+        let asked = format!("{call} any field of kind {name}");
+        test(Pair::OursModel.name(&asked), wanted)
     };
     let mut scale = test("scale", with_refusals(kind, any_value_kinds(kind)));
     let mut raw = test("raw", with_refusals(kind, outcomes(kind)));
@@ -57,13 +59,13 @@ fn compare_any(code: u32, amount: Amount, random: &mut Random, report: &mut Repo
             for call in calls {
                 let case = Case::passed(passed, call);
                 if let Some(ours) = sides::ours(&case) {
-                    test.compare(&case, ours, sides::model(&case));
+                    compare(test, &case, ours, sides::model(&case));
                 }
             }
         }
     }
     for test in [scale, raw] {
-        report.line(&test.name, test.outcome());
+        test.report(report);
     }
 }
 
@@ -96,7 +98,7 @@ fn compare_kind(
     kind: Kind,
     amount: Amount,
     random: &mut Random,
-    left_out: &mut LeftOut,
+    left_out: &mut LeftOut<Reason, Kept>,
     report: &mut Report,
 ) {
     let mut scale = Sides::new("scale", kind, value_kinds(kind));
@@ -146,113 +148,85 @@ fn outcomes(kind: Kind) -> Vec<usize> {
 }
 
 /// The sides held against each other over the same cases.
-struct Sides {
-    ours_standin: Test,
-    ours_model: Test,
-    ours_rust: Test,
-    model_standin: Test,
-    model_rust: Test,
-}
+struct Sides([(Pair, Test); 5]);
+
+type Test = Tally<Kept>;
+
+/// What is kept of the smallest differing case.
+type Kept = Printed<[u64; 5]>;
+
+/// In the order in which they are reported.
+const PAIRS: [Pair; 5] = [
+    Pair::OursStandin,
+    Pair::OursModel,
+    Pair::OursRust,
+    Pair::ModelStandin,
+    Pair::ModelRust,
+];
 
 impl Sides {
     fn new(call: &str, kind: Kind, wanted: Vec<usize>) -> Sides {
-        let test = |who: &str, against: &str| {
-            let name = format!("{who}{call} {kind:?} against {against}");
-            Test::new(name, wanted.clone())
-        };
-        Sides {
-            ours_standin: test("", "the stand-ins"),
-            ours_model: test("", "the model"),
-            ours_rust: test("", "the Rust"),
-            model_standin: test("the model's ", "the stand-ins"),
-            model_rust: test("the model's ", "the Rust"),
-        }
+        let asked = format!("{call} {kind:?}");
+        let test = |pair: Pair| test(pair.name(&asked), wanted.clone());
+        Sides(PAIRS.map(|pair| (pair, test(pair))))
     }
 
-    fn compare(&mut self, case: &Case, asked: &Asked, left_out: &mut LeftOut) {
+    /// A case that is left out with the Rust is not compared with it.
+    fn compare(&mut self, case: &Case, asked: &Asked, left_out: &mut LeftOut<Reason, Kept>) {
         let model = sides::model(case);
         let standin = asked.standin(case);
         let rust = asked.rust(case, model.values[3]);
         let ours = sides::ours(case);
-        self.model_standin.compare(case, model, standin);
-        if let Some(ours) = ours {
-            self.ours_standin.compare(case, ours, standin);
-            self.ours_model.compare(case, ours, model);
+        let reason = reason(case);
+        if let Some(reason) = reason {
+            count(left_out.of(reason), case, rust, model);
         }
-        match (reason(case), ours) {
-            (Some(reason), _) => left_out.count(reason, case, rust, model),
-            (None, None) => self.model_rust.compare(case, model, rust),
-            (None, Some(ours)) => {
-                self.model_rust.compare(case, model, rust);
-                self.ours_rust.compare(case, ours, rust);
+        for (pair, test) in &mut self.0 {
+            let side = if pair.is_ours() { ours } else { Some(model) };
+            let against = match pair {
+                Pair::OursModel => Some(model),
+                Pair::OursStandin | Pair::ModelStandin => Some(standin),
+                Pair::OursRust | Pair::ModelRust => reason.is_none().then_some(rust),
+            };
+            if let (Some(side), Some(against)) = (side, against) {
+                compare(test, case, side, against);
             }
         }
     }
 
     fn report(self, report: &mut Report) {
-        let ours = [self.ours_standin, self.ours_model, self.ours_rust];
-        let others = [self.model_standin, self.model_rust];
-        for test in ours.into_iter().chain(others) {
-            report.line(&test.name, test.outcome());
+        for (_, test) in self.0 {
+            test.report(report);
         }
     }
 }
 
-struct Test {
-    name: String,
-    /// The outcomes that answers have to have, or the test shows nothing.
-    wanted: Vec<usize>,
-    met: [usize; OUTCOMES],
-    differing: usize,
-    smallest: Option<([u64; 5], String)>,
+fn test(name: String, wanted: Vec<usize>) -> Test {
+    Tally::new(name, wanted, outcome_name)
 }
 
-impl Test {
-    fn new(name: String, wanted: Vec<usize>) -> Test {
-        Test {
-            name,
-            wanted,
-            met: [0; OUTCOMES],
-            differing: 0,
-            smallest: None,
-        }
+/// The second side is the one that the first is held against.
+fn compare(test: &mut Test, case: &Case, side: Answer, against: Answer) {
+    test.meet(against.outcome(case));
+    if side != against {
+        (test.differing).add_printed(case.size(), || difference(case, side, against));
     }
+}
 
-    /// The second side is the one that the first is held against.
-    fn compare(&mut self, case: &Case, side: Answer, against: Answer) {
-        self.met[against.outcome(case)] += 1;
-        if side == against {
-            return;
-        }
-        self.differing += 1;
-        let size = case.size();
-        if self.smallest.as_ref().is_none_or(|known| size < known.0) {
-            self.smallest = Some((size, difference(case, side, against)));
-        }
-    }
-
-    fn outcome(&self) -> Result<String, String> {
-        let cases: usize = self.met.iter().sum();
-        if let Some((_, text)) = &self.smallest {
-            return Err(format!(
-                "{} of {cases} cases differ, such as\n  {text}",
-                self.differing
-            ));
-        }
-        if let Some(&missed) = self.wanted.iter().find(|&&n| self.met[n] == 0) {
-            return Err(format!("no case answers {}", outcome_name(missed)));
-        }
-        let outcomes: Vec<String> = (self.wanted.iter())
-            .map(|&outcome| format!("{}: {}", outcome_name(outcome), self.met[outcome]))
-            .collect();
-        Ok(format!("{cases} cases ({})", outcomes.join(", ")))
+fn count(left_out: &mut Differing<Kept>, case: &Case, rust: Answer, model: Answer) {
+    left_out.met += 1;
+    if rust != model {
+        left_out.add_printed(case.size(), || {
+            let (there, here) = (rust.line(case), model.line(case));
+            format!(" {}: {there} there, {here} here", case.line())
+        });
     }
 }
 
 /// The case in the form of the sample, and both answers, with all numbers of each.
 fn difference(case: &Case, side: Answer, against: Answer) -> String {
     format!(
-        "{}\n  {}, {side:?}\n  {}, {against:?} is wanted",
+        "\n  {}\n  {}, {side:?}\n  {}, {against:?} is wanted",
         case.line(),
         side.line(case),
         against.line(case),

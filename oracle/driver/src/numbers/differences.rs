@@ -1,10 +1,12 @@
 //! Where the Rust is known to part from document 01 on numbers, told by the input alone. Such cases are
 //! not compared with it; they are counted, and each reason has to show a case that does differ.
-use super::case::{Answer, Call, Case, is_odd_nan};
+use super::case::{Call, Case};
+use super::value_kinds::is_odd_nan;
+use crate::tally;
 use korri_n2k::core::scaled_value_fits_f32;
 use model::numbers::{Field, Kind, Mark, Scale, Value, ValueKind, as_double};
 
-#[derive(Clone, Copy, Debug, PartialEq, Eq)]
+#[derive(Clone, Copy, Debug, PartialEq, Eq, PartialOrd, Ord)]
 pub enum Reason {
     Mark,
     MmsiZero,
@@ -15,8 +17,8 @@ pub enum Reason {
     FarBelow,
 }
 
-impl Reason {
-    pub const ALL: [Reason; 7] = [
+impl tally::Reason for Reason {
+    const ALL: &'static [Reason] = &[
         Reason::Mark,
         Reason::MmsiZero,
         Reason::LookupWritten,
@@ -25,9 +27,9 @@ impl Reason {
         Reason::FloatNan,
         Reason::FarBelow,
     ];
+    const COUNTED: [&'static str; 2] = [" cases", ""];
 
-    /// What the Rust does.
-    pub fn text(self) -> &'static str {
+    fn text(self) -> &'static str {
         match self {
             Reason::Mark => "f32 or f64 by width, sign and resolution, not by the mark",
             Reason::MmsiZero => "Mmsi of raw 0 is not available",
@@ -98,43 +100,4 @@ fn is_far_below(field: &Field, scale: Scale, value: Value) -> bool {
         let quotient = value / f64::from(scale.resolution);
         quotient.is_finite() && quotient <= FAR
     })
-}
-
-/// The cases left out for each reason.
-#[derive(Default)]
-pub struct LeftOut {
-    met: [usize; Reason::ALL.len()],
-    differing: [usize; Reason::ALL.len()],
-    smallest: [Option<([u64; 5], String)>; Reason::ALL.len()],
-}
-
-impl LeftOut {
-    pub fn count(&mut self, reason: Reason, case: &Case, rust: Answer, model: Answer) {
-        let i = reason as usize;
-        self.met[i] += 1;
-        if rust == model {
-            return;
-        }
-        self.differing[i] += 1;
-        let size = case.size();
-        if self.smallest[i].as_ref().is_none_or(|known| size < known.0) {
-            let text = format!(
-                "{}: {} there, {} here",
-                case.line(),
-                rust.line(case),
-                model.line(case)
-            );
-            self.smallest[i] = Some((size, text));
-        }
-    }
-
-    /// The count of a reason, which fails if no case differs: it would leave cases out for nothing.
-    pub fn outcome(&self, reason: Reason) -> Result<String, String> {
-        let i = reason as usize;
-        let (met, differing) = (self.met[i], self.differing[i]);
-        match &self.smallest[i] {
-            None => Err(format!("none of {met} cases differs")),
-            Some((_, text)) => Ok(format!("{met} cases, {differing} differ, such as {text}")),
-        }
-    }
 }

@@ -1,81 +1,14 @@
-//! The two oracles, the Rust unchanged and the one with stand-ins, asked about a number field. They
-//! have the same types under two names, so what makes and reads those is written once.
-use model::numbers::{Field, Kind, Mark, Value, ValueKind};
+//! The two oracles, the Rust unchanged and the one with stand-ins, asked about a number field.
+use model::numbers::{Field, Kind, Mark, Value};
 
 /// A number for refusals that no number field should meet.
 pub const OTHER_REFUSAL: u32 = 99;
 
-macro_rules! types_of {
-    ($krate:ident) => {
-        use $krate::core::{
-            Availability, FieldDescriptor, FieldKind, PgnBytes, PgnDescriptor, PgnValue,
-            RepeatingFieldSet,
-        };
-        use $krate::error::SerializationError;
-
-        fn kind(kind: Kind) -> FieldKind {
-            match kind {
-                Kind::Number => FieldKind::Number,
-                Kind::Float => FieldKind::Float,
-                Kind::Lookup => FieldKind::Lookup,
-                Kind::IndirectLookup => FieldKind::IndirectLookup,
-                Kind::BitLookup => FieldKind::BitLookup,
-                Kind::Pgn => FieldKind::Pgn,
-                Kind::Date => FieldKind::Date,
-                Kind::Time => FieldKind::Time,
-                Kind::Duration => FieldKind::Duration,
-                Kind::Mmsi => FieldKind::Mmsi,
-                Kind::Decimal => FieldKind::Decimal,
-                Kind::StringFix => FieldKind::StringFix,
-                Kind::StringLz => FieldKind::StringLz,
-                Kind::StringLau => FieldKind::StringLau,
-                Kind::Binary => FieldKind::Binary,
-                Kind::Reserved => FieldKind::Reserved,
-                Kind::Spare => FieldKind::Spare,
-                Kind::IsoName => FieldKind::IsoName,
-                Kind::Unimplemented => FieldKind::Unimplemented,
-            }
-        }
-
-        pub fn descriptor(field: &Field) -> FieldDescriptor {
-            FieldDescriptor {
-                id: "field",
-                name: "",
-                kind: kind(field.kind),
-                bits_length: Some(field.width),
-                bits_length_var: None,
-                bits_offset: None,
-                is_signed: Some(field.signed),
-                resolution: field.scale.map(|scale| scale.resolution),
-                enum_direct_name: None,
-                enum_indirect_name: None,
-                enum_indirect_field_order: None,
-                physical_unit: None,
-                physical_qtity: None,
-                unknown_value: super::sentinel(field),
-                out_of_range_value: None,
-                reserved_value: None,
-            }
-        }
-
-        /// A table for the rest of the run: the Rust wants it that long.
-        fn table(fields: &[Field], sets: Vec<RepeatingFieldSet>) -> &'static PgnDescriptor {
-            let fields: Vec<FieldDescriptor> = fields.iter().map(descriptor).collect();
-            Box::leak(Box::new(PgnDescriptor {
-                id: 0,
-                name: "",
-                description: "",
-                priority: None,
-                fastpacket: false,
-                length: None,
-                min_length: None,
-                field_count: None,
-                trans_interval: None,
-                trans_irregular: None,
-                fields: fields.leak(),
-                repeating_field_sets: sets.leak(),
-            }))
-        }
+macro_rules! numbers_of {
+    ($krate:ident, $types:ident) => {
+        use crate::oracle_types::$types::{descriptor, from_rust, leaked, to_rust};
+        use ::$krate::core::{Availability, PgnDescriptor, RepeatingFieldSet};
+        use ::$krate::error::SerializationError;
 
         /// A counter and a set of one other field, without a limit.
         fn counted(counter: &Field, other: &Field) -> &'static PgnDescriptor {
@@ -86,40 +19,11 @@ macro_rules! types_of {
                 size: 1,
                 max_repetitions: usize::MAX,
             };
-            table(&[*counter, *other], vec![set])
-        }
-
-        pub fn from_rust(value: &PgnValue) -> Value {
-            match *value {
-                PgnValue::U64(v) => Value::whole(ValueKind::U64, v.into()),
-                PgnValue::U32(v) => Value::whole(ValueKind::U32, v.into()),
-                PgnValue::U16(v) => Value::whole(ValueKind::U16, v.into()),
-                PgnValue::U8(v) => Value::whole(ValueKind::U8, v.into()),
-                PgnValue::I64(v) => Value::whole(ValueKind::I64, v.into()),
-                PgnValue::I32(v) => Value::whole(ValueKind::I32, v.into()),
-                PgnValue::I16(v) => Value::whole(ValueKind::I16, v.into()),
-                PgnValue::I8(v) => Value::whole(ValueKind::I8, v.into()),
-                PgnValue::F64(v) => Value::double(v),
-                PgnValue::F32(v) => Value::single(v),
-                PgnValue::Bytes(_) | PgnValue::Ignored => panic!("no number was read"),
-            }
-        }
-
-        pub fn to_rust(value: Value) -> PgnValue {
-            let bits = value.bits;
-            match value.kind {
-                ValueKind::U64 => PgnValue::U64(bits),
-                ValueKind::U32 => PgnValue::U32(bits as u32),
-                ValueKind::U16 => PgnValue::U16(bits as u16),
-                ValueKind::U8 => PgnValue::U8(bits as u8),
-                ValueKind::I64 => PgnValue::I64(bits as i64),
-                ValueKind::I32 => PgnValue::I32(bits as i32),
-                ValueKind::I16 => PgnValue::I16(bits as i16),
-                ValueKind::I8 => PgnValue::I8(bits as i8),
-                ValueKind::F64 => PgnValue::F64(f64::from_bits(bits)),
-                ValueKind::F32 => PgnValue::F32(f32::from_bits(bits as u32)),
-                ValueKind::Bytes => PgnValue::Bytes(PgnBytes::new()),
-            }
+            leaked(
+                [counter, other].map(descriptor).into(),
+                vec![set],
+                [None; 2],
+            )
         }
 
         fn refusal(error: SerializationError) -> u32 {
@@ -130,13 +34,6 @@ macro_rules! types_of {
             }
         }
     };
-}
-
-/// The raw that the Rust's descriptor says is "not available", chosen as document 01 has it.
-fn sentinel(field: &Field) -> Option<i64> {
-    let (_, largest) = model::numbers::limits(field.width, field.signed);
-    let has_one = field.kind != Kind::Float && field.width >= 2;
-    has_one.then_some(largest as i64)
 }
 
 /// The raw in a buffer that was all ones before a field was written at its start, if only the field's
@@ -150,10 +47,11 @@ fn raw_in(buffer: [u8; 8], width: u32) -> u64 {
 
 /// The Rust unchanged, through its public calls.
 pub mod rust {
-    use super::{Field, Kind, Value, ValueKind, raw_in};
+    use super::{Field, Value, raw_in};
+    use korri_n2k::core::PgnValue;
     use korri_n2k::infra::codec::engine::{for_each_field, serialize};
     use korri_n2k::infra::codec::traits::FieldAccess;
-    types_of!(korri_n2k);
+    numbers_of!(korri_n2k, rust);
 
     pub struct Asked {
         width: u32,
@@ -177,7 +75,7 @@ pub mod rust {
         pub fn new(field: &Field) -> Asked {
             Asked {
                 width: field.width,
-                table: table(&[*field], Vec::new()),
+                table: leaked(vec![descriptor(field)], Vec::new(), [None; 2]),
             }
         }
 
@@ -213,11 +111,11 @@ pub mod rust {
 
 /// The Rust with stand-ins, through its opened functions.
 pub mod standin {
-    use super::{Field, Kind, Mark, Value, ValueKind, raw_in};
+    use super::{Field, Kind, Mark, Value, raw_in};
     use ::standin::infra::codec::bits::{BitReader, BitWriter};
     use ::standin::infra::codec::engine::open;
     use ::standin::marks::{self, Marked};
-    types_of!(standin);
+    numbers_of!(standin, standin);
 
     pub struct Asked {
         width: u32,

@@ -1,16 +1,16 @@
 //! The sample on numbers: a fixed list of cases and the answers of the oracle with stand-ins, then fields
 //! that no table may have with the answers of the model, to be replayed without Rust.
-use super::any_fields::{self, CODES};
-use super::case::{Answer, Call, Case, field_of, is_odd_nan, value_code};
+use super::any_fields;
+use super::case::{Answer, Call, Case, field_of};
 use super::cases::{Amount, KINDS, any_field, raws};
 use super::differences::reason;
 use super::sides::{self, Asked};
+use super::value_kinds::{is_odd_nan, value_code};
 use super::values::values;
-use crate::cases::SEED;
 use crate::random::Random;
 use crate::samopute::CField;
+use crate::sampled::Sampled;
 use model::numbers::{Field, Kind, Mark, Scale, Value, ValueKind, is_allowed, limits};
-use std::collections::HashSet;
 
 /// Raws of each kind of field, and values.
 const RAWS: usize = 75;
@@ -42,29 +42,25 @@ pub fn print_answers() {
 
 /// The cases and the answers.
 fn sample() -> Vec<(Case, Answer)> {
-    let mut random = Random::new(SEED);
-    let mut taken: Vec<(Case, Answer)> = Vec::new();
-    let mut known = HashSet::new();
+    let mut sample = Sampled::new(Case::line);
     for case in papers() {
-        known.insert(case.line());
-        taken.push((case, ask(&case)));
+        sample.take(case, ask(&case));
     }
     for kind in KINDS {
-        taken.extend(raws_of(kind, &mut known, &mut random));
+        sample.draw(RAWS, |random| Some(any_scale(kind, random)));
         for (outcome, share) in shares(kind) {
-            taken.extend(values_of(kind, outcome, share, &mut known, &mut random));
+            sample.draw(share, |random| any_raw_of(kind, outcome, random));
         }
     }
-    let mut others = fixed_others();
-    for code in CODES {
-        others.extend(any_others(code, &mut random));
+    for case in fixed_others() {
+        sample.take(case, sides::model(&case));
     }
-    for case in others {
-        if known.insert(case.line()) {
-            taken.push((case, sides::model(&case)));
+    for code in any_fields::codes() {
+        for case in any_others(code, &mut sample.random) {
+            sample.take(case, sides::model(&case));
         }
     }
-    taken
+    sample.taken
 }
 
 /// The answer of the oracle with stand-ins, which the Rust gives as well unless it is known to differ.
@@ -82,22 +78,16 @@ fn ask(case: &Case) -> Answer {
     answer
 }
 
-fn raws_of(kind: Kind, known: &mut HashSet<String>, random: &mut Random) -> Vec<(Case, Answer)> {
-    let mut taken = Vec::new();
-    while taken.len() < RAWS {
-        let field = any_field(kind, random);
-        let raw = if random.up_to(LARGEST - 1) == 0 {
-            limits(field.width, field.signed).1 as u64
-        } else {
-            let raws = raws(&field, AMOUNT, random);
-            random.among(&raws)
-        };
-        let case = Case::new(field, Call::Scale(raw));
-        if known.insert(case.line()) {
-            taken.push((case, ask(&case)));
-        }
-    }
-    taken
+fn any_scale(kind: Kind, random: &mut Random) -> (Case, Answer) {
+    let field = any_field(kind, random);
+    let raw = if random.up_to(LARGEST - 1) == 0 {
+        limits(field.width, field.signed).1 as u64
+    } else {
+        let raws = raws(&field, AMOUNT, random);
+        random.among(&raws)
+    };
+    let case = Case::new(field, Call::Scale(raw));
+    (case, ask(&case))
 }
 
 /// How many values of a kind of field end in each refusal, or in none. Every f32 is in a Float's range.
@@ -109,28 +99,16 @@ fn shares(kind: Kind) -> Vec<(u32, usize)> {
     }
 }
 
-fn values_of(
-    kind: Kind,
-    outcome: u32,
-    share: usize,
-    known: &mut HashSet<String>,
-    random: &mut Random,
-) -> Vec<(Case, Answer)> {
-    let mut taken = Vec::new();
-    while taken.len() < share {
-        let field = any_field(kind, random);
-        let values = values(&field, AMOUNT, random);
-        let value = random.among(&values);
-        if is_odd_nan(value) {
-            continue;
-        }
-        let case = Case::new(field, Call::RawOf(value));
-        let answer = ask(&case);
-        if answer.number == outcome && known.insert(case.line()) {
-            taken.push((case, answer));
-        }
+fn any_raw_of(kind: Kind, outcome: u32, random: &mut Random) -> Option<(Case, Answer)> {
+    let field = any_field(kind, random);
+    let values = values(&field, AMOUNT, random);
+    let value = random.among(&values);
+    if is_odd_nan(value) {
+        return None;
     }
-    taken
+    let case = Case::new(field, Call::RawOf(value));
+    let answer = ask(&case);
+    (answer.number == outcome).then_some((case, answer))
 }
 
 /// The cases on numbers that document 01 gives, and those that its words decide where one could err.

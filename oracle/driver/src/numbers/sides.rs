@@ -1,7 +1,8 @@
 //! The same case asked of the four sides: the library under test, the model, the oracle with stand-ins,
 //! and the Rust unchanged. The last two speak of fields that the table rules allow.
-use super::case::{Answer, Call, Case, is_odd_nan, value_code};
+use super::case::{Answer, Call, Case};
 use super::oracles::{rust, standin};
+use super::value_kinds::{is_odd_nan, value_code};
 use crate::samopute;
 use crate::sides::UNSET;
 use model::numbers::{self, Field, Refusal, ValueKind};

@@ -1,7 +1,7 @@
 //! The values that are asked of each field: the ends of every kind of value, odd floats, and those around
 //! the field's own limits.
-use super::case::VALUE_KINDS;
 use super::cases::{Amount, float_bits, inputs};
+use super::value_kinds::{VALUE_KINDS, whole};
 use crate::random::Random;
 use model::numbers::{Field, Kind, Scale, Value, ValueKind, limits, meant, value};
 
@@ -21,20 +21,8 @@ pub fn values(field: &Field, amount: Amount, random: &mut Random) -> Vec<Value> 
 
 /// The integer kinds, with their widths and signs.
 fn whole_kinds() -> impl Iterator<Item = (ValueKind, u32, bool)> {
-    VALUE_KINDS.into_iter().filter_map(|kind| {
-        let (width, signed) = match kind {
-            ValueKind::U64 => (64, false),
-            ValueKind::U32 => (32, false),
-            ValueKind::U16 => (16, false),
-            ValueKind::U8 => (8, false),
-            ValueKind::I64 => (64, true),
-            ValueKind::I32 => (32, true),
-            ValueKind::I16 => (16, true),
-            ValueKind::I8 => (8, true),
-            ValueKind::F64 | ValueKind::F32 | ValueKind::Bytes => return None,
-        };
-        Some((kind, width, signed))
-    })
+    let kinds = VALUE_KINDS.into_iter();
+    kinds.filter_map(|kind| whole(kind).map(|(width, signed)| (kind, width, signed)))
 }
 
 /// The integers of every kind at their ends and around 0, and no bytes.

@@ -1,5 +1,6 @@
 //! What a side answers to a case, as the program under test has it in text.
 use super::case::{Case, FILLER};
+use super::refusal;
 use crate::case::hex;
 use model::reading::{self, Content, Decoded, Fault, Reading};
 use model::tables::Table;
@@ -48,7 +49,7 @@ impl Answer {
         }
         match self.outcome {
             Ok(end) => writeln!(text, "E {end} {}", self.readings.len()),
-            Err(fault) => writeln!(text, "F {}", fault_text(fault)),
+            Err(fault) => writeln!(text, "F {}", refusal::text(fault)),
         }
         .unwrap();
         writeln!(text, "D {}", hex(&self.padding)).unwrap();
@@ -58,12 +59,7 @@ impl Answer {
 
 /// `R FIELD ELEMENT START BITS A|N RAW KIND VALUE [ENCODING]`.
 fn put_reading(text: &mut String, reading: &Reading) {
-    let element = or_dash(reading.element);
-    let state = if reading.available { 'A' } else { 'N' };
-    let Reading {
-        field, start, bits, ..
-    } = reading;
-    write!(text, "R {field} {element} {start} {bits} {state} ").unwrap();
+    write!(text, "{} ", line_start(reading)).unwrap();
     match reading.content {
         Content::Number { raw, value } => {
             writeln!(text, "{raw:X} {:?} {:X}", value.kind, value.bits)
@@ -80,26 +76,12 @@ fn put_reading(text: &mut String, reading: &Reading) {
     .unwrap();
 }
 
-fn or_dash(number: Option<usize>) -> String {
-    number.map_or("-".to_string(), |number| number.to_string())
-}
-
-/// `NUMBER CARRIED...`; a field of 1 to 3 comes first.
-pub fn fault_text(fault: Fault) -> String {
-    match fault {
-        Fault::Bits { field, refusal } => {
-            let carried = refusal.carried();
-            let carried: String = carried.iter().map(|value| format!(" {value}")).collect();
-            format!("{} {field}{carried}", refusal.number())
-        }
-        Fault::Cut { field } => format!("4 {field}"),
-        Fault::Elements {
-            set,
-            count,
-            maximum,
-        } => format!("5 {set} {count} {maximum}"),
-        Fault::Length(length) => format!("7 {length}"),
-        Fault::Table((letter, index)) => format!("8 {letter} {index}"),
-        Fault::NoRoom { field } => format!("9 {field}"),
-    }
+/// What comes before the raw.
+pub fn line_start(reading: &Reading) -> String {
+    let Reading {
+        field, start, bits, ..
+    } = reading;
+    let element = (reading.element).map_or("-".to_string(), |element| element.to_string());
+    let state = if reading.available { 'A' } else { 'N' };
+    format!("R {field} {element} {start} {bits} {state}")
 }

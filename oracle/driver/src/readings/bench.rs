@@ -2,61 +2,35 @@
 //! one message.
 mod check;
 mod kept;
+mod lent;
 mod plain;
 pub mod positions;
 
-use super::boundary::records::{COUNT, RECORD};
 use super::oracles::rust;
 use crate::cases::SEED;
 use crate::random::Random;
 use crate::samopute::{self, CReading};
 use crate::tables::built_in::table_129029;
 use crate::tables::words::pack;
+use crate::timing::{self, ROUNDS, timed};
 use check::check;
 use kept::{Kept, keep};
 use korri_n2k::core::PgnDescriptor;
 use korri_n2k::infra::codec::engine::for_each_field;
+use lent::{FIXED_READINGS, Lent, MOST, PGN, STATION_READINGS};
 use model::reading::PADDING;
 use plain::Position;
 use positions::{Part, Positions};
 use std::hint::black_box;
-use std::time::Instant;
 
 pub const PAYLOADS: usize = 1_000_000;
-const ROUNDS: usize = 15;
 const STATIONS: [usize; 3] = [0, 2, 10];
-const PGN: u32 = 129_029;
 
 /// Ours in three ways, the Rust in two, and the plain decoder.
 const SIDES: usize = 6;
 
 /// The sides take turns after so many payloads, so that a slow spell of the machine hits all.
 const TURN: usize = 1000;
-
-/// The readings before the stations, and of a station.
-const FIXED_READINGS: usize = 14;
-const STATION_READINGS: usize = 3;
-
-/// The most readings that a payload of the message has, and the bytes of ours.
-const MOST: usize = FIXED_READINGS + 45 * STATION_READINGS;
-const READINGS: usize = COUNT + RECORD * MOST;
-
-/// What the library needs beside the payload.
-struct Lent {
-    padding: [u8; PADDING],
-    readings: [u8; READINGS],
-    answer: samopute::Decoded,
-}
-
-impl Lent {
-    fn new() -> Lent {
-        Lent {
-            padding: [0; PADDING],
-            readings: [0; READINGS],
-            answer: [0; 6],
-        }
-    }
-}
 
 pub fn run(payloads: usize) {
     println!("ns a payload, the least of {ROUNDS} rounds of {payloads} payloads of {PGN}");
@@ -94,27 +68,22 @@ fn print_times(stations: usize, [words, run, pgn, rust, kept, plain]: [f64; SIDE
     );
 }
 
-/// The least time of each work in ns. The first round only warms up; each work has to meet as many
-/// readings in each.
+/// The least time of each work in ns; each has to meet as many readings in each round.
 fn fastest(
     positions: &Positions,
     wanted: usize,
     works: [&dyn Fn(Part) -> usize; SIDES],
 ) -> [f64; SIDES] {
-    let mut least = [f64::INFINITY; SIDES];
-    for round in 0..=ROUNDS {
-        let (times, counts) = timed(positions, works);
+    timing::fastest(|| {
+        let (times, counts) = turns(positions, works);
         assert_eq!(counts, [wanted; SIDES], "a reading is missing");
-        if round > 0 {
-            least = std::array::from_fn(|i| least[i].min(times[i]));
-        }
-    }
-    least
+        times
+    })
 }
 
 /// The time and the readings of each work in one round. Another begins at each turn, as the first finds
 /// the payloads in no cache.
-fn timed(
+fn turns(
     positions: &Positions,
     works: [&dyn Fn(Part) -> usize; SIDES],
 ) -> ([f64; SIDES], [usize; SIDES]) {
@@ -122,9 +91,9 @@ fn timed(
     for (turn, part) in positions.parts(TURN).enumerate() {
         for i in 0..SIDES {
             let i = (turn + i) % SIDES;
-            let start = Instant::now();
-            counts[i] += black_box(works[i](part));
-            times[i] += start.elapsed().as_nanos() as f64;
+            let (time, count) = timed(|| works[i](part));
+            times[i] += time;
+            counts[i] += count;
         }
     }
     (times, counts)
@@ -132,12 +101,37 @@ fn timed(
 
 /// Ours with the table in words, so with the table check in each call.
 fn by_words(words: &[u64], part: Part) -> usize {
+    lent(
+        part,
+        |payload,
+         Lent {
+             padding,
+             readings,
+             answer,
+         }| { samopute::decode(words, payload, padding, readings, answer) },
+    )
+}
+
+/// Ours with the table that is built in.
+fn by_pgn(part: Part) -> usize {
+    lent(
+        part,
+        |payload,
+         Lent {
+             padding,
+             readings,
+             answer,
+         }| { samopute::decode_pgn(PGN, payload, padding, readings, answer) },
+    )
+}
+
+/// The readings of calls with the same buffers.
+#[inline(always)]
+fn lent(part: Part, call: impl Fn(&[u8], &mut Lent) -> u32) -> usize {
     let mut lent = Lent::new();
     let mut count = 0;
     for payload in part.payloads() {
-        let (padding, readings) = (&mut lent.padding, &mut lent.readings);
-        let status = samopute::decode(words, payload, padding, readings, &mut lent.answer);
-        assert_eq!(status, 0);
+        assert_eq!(call(payload, &mut lent), 0);
         black_box(&lent);
         count += lent.answer[0] as usize;
     }
@@ -153,20 +147,6 @@ fn by_run(words: &[u64], part: Part) -> usize {
         assert_eq!(status, 0);
         black_box((&padding, &structs));
         count += answer[0] as usize;
-    }
-    count
-}
-
-/// Ours with the table that is built in.
-fn by_pgn(part: Part) -> usize {
-    let mut lent = Lent::new();
-    let mut count = 0;
-    for payload in part.payloads() {
-        let (padding, readings) = (&mut lent.padding, &mut lent.readings);
-        let status = samopute::decode_pgn(PGN, payload, padding, readings, &mut lent.answer);
-        assert_eq!(status, 0);
-        black_box(&lent);
-        count += lent.answer[0] as usize;
     }
     count
 }

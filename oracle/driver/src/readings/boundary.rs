@@ -3,7 +3,6 @@
 mod by_hand;
 mod call;
 pub mod compare;
-pub mod lent;
+mod lent;
 pub mod records;
 mod run;
-pub mod unknown;

@@ -1,6 +1,7 @@
 //! A payload to be read, with its table, the lent padding run and the room, in the form of the program
 //! under test.
 use crate::case::hex;
+use model::reading::PADDING;
 
 /// What the padding run holds before a call.
 pub const FILLER: u8 = 0xA5;
@@ -21,6 +22,16 @@ pub struct Case {
 }
 
 impl Case {
+    /// With the usual padding run and ample room.
+    pub fn usual(words: Vec<u64>, payload: Vec<u8>) -> Case {
+        Case {
+            room: AMPLE,
+            padding: PADDING,
+            words,
+            payload,
+        }
+    }
+
     /// `ROOM PADDING WORDS PAYLOAD`.
     pub fn line(&self) -> String {
         let words: Vec<String> = self.words.iter().map(|word| format!("{word:X}")).collect();

@@ -4,7 +4,7 @@ use super::case::{AMPLE, Case};
 use super::payloads::{any_bytes, damaged, made, sized};
 use crate::random::Random;
 use crate::tables::damaged::damage;
-use crate::tables::words::{fill_unused, pack};
+use crate::tables::words::pack;
 use model::reading::PADDING;
 use model::tables::{PAYLOAD_MAX, Table};
 
@@ -16,15 +16,6 @@ const ROUNDS: usize = 2;
 
 /// The longest payload and padding run that the program takes.
 pub const LONGEST: usize = 300;
-
-/// The words of a table, at times with what says nothing filled in.
-pub fn any_words(table: &Table, random: &mut Random) -> Vec<u64> {
-    let mut words = pack(table);
-    if random.up_to(7) == 0 {
-        fill_unused(&mut words, random);
-    }
-    words
-}
 
 /// The cases of an accepted table.
 pub fn cases_of(table: &Table, words: &[u64], random: &mut Random) -> Vec<Case> {

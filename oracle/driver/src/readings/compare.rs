@@ -1,20 +1,22 @@
 //! The comparison on reading payloads. Each test is one side against another, over one set of cases.
+use super::asked::Asked;
 use super::case::Case;
-use super::cases::{any_words, cases_of, refused_cases};
+use super::cases::{cases_of, refused_cases};
 use super::coverage::Coverage;
-use super::differences::{LeftOut, Reason};
 use super::kept::Kept;
 use super::met::Met;
 use super::program::Program;
-use super::sides::{Answers, Asked, Given, Pair};
-use super::small_tables::any_small_table;
-use super::test::{Test, answers_of, ask_program};
+use super::sides::{Answers, Given};
 use super::{by_hand, exhaustive, malformed};
 use crate::cases::SEED;
+use crate::pair::Pair;
+use crate::payload::test::{LeftOut, Test, leave_out, report_left_out};
 use crate::random::Random;
 use crate::report::Report;
 use crate::tables::accepted::any_table;
 use crate::tables::built_in;
+use crate::tables::small::any_small_table;
+use crate::tables::words::any_words;
 use model::tables::Table;
 use std::rc::Rc;
 
@@ -48,6 +50,9 @@ const FULL: Amount = Amount {
     counter_bits: 9,
 };
 
+/// The outcomes of tables of any kind.
+const ANY: [u32; 7] = [0, 2, 3, 4, 5, 7, 9];
+
 /// The lines that are passed to one run of the program.
 const LINES: usize = 4_000;
 
@@ -59,35 +64,25 @@ pub fn run(quick: bool, program: &Result<Program, String>, report: &mut Report) 
     by_hand::run(program, report);
     malformed::run(program, report);
 
-    let mut set =
-        Set::new("one by one", &[0, 2, 3, 4, 5], program, &mut counts).with_changes(amount.ways);
-    exhaustive::kinds(&mut |cases| set.add(cases));
-    exhaustive::texts(&mut |cases| set.add(cases));
-    exhaustive::fixed_texts(&mut |cases| set.add(cases));
-    exhaustive::fillings(&mut |cases| set.add(cases));
-    exhaustive::counters(amount.counter_bits, &mut |cases| set.add(cases));
+    let mut set = Set::new("one by one", &[0, 2, 3, 4, 5], program, &mut counts);
+    set.check_changes(amount.ways);
+    exhaustive::all(amount.counter_bits, &mut |cases| set.add(cases));
     set.report(report);
 
-    let mut set = Set::new("small tables", &[0, 2, 3, 4, 5, 7, 9], program, &mut counts)
-        .with_changes(amount.ways);
-    for _ in 0..amount.small {
-        set.add_table(&any_small_table(&mut random), &mut random);
-    }
+    let mut set = Set::new("small tables", &ANY, program, &mut counts);
+    set.check_changes(amount.ways);
+    set.add_tables(amount.small, any_small_table, &mut random);
     set.report(report);
 
-    let mut set = Set::new("any tables", &[0, 2, 3, 4, 5, 7, 9], program, &mut counts)
-        .with_changes(amount.ways);
-    for _ in 0..amount.any {
-        set.add_table(&any_table(&mut random), &mut random);
-    }
+    let mut set = Set::new("any tables", &ANY, program, &mut counts);
+    set.check_changes(amount.ways);
+    set.add_tables(amount.any, any_table, &mut random);
     set.report(report);
 
-    let mut set = Set::new("built-in tables", &[0, 2, 4, 7, 9], program, &mut counts)
-        .with_changes(amount.ways);
+    let mut set = Set::new("built-in tables", &[0, 2, 4, 7, 9], program, &mut counts);
+    set.check_changes(amount.ways);
     for table in built_in::all() {
-        for _ in 0..amount.built_in {
-            set.add_table(&table, &mut random);
-        }
+        set.add_tables(amount.built_in, |_| table.clone(), &mut random);
     }
     set.report(report);
 
@@ -97,23 +92,25 @@ pub fn run(quick: bool, program: &Result<Program, String>, report: &mut Report) 
         set.add(refused_cases(&table, &mut random));
     }
     set.report(report);
-
-    report.line("shapes of readings met", counts.coverage.outcome());
-    let asked = |outcome| program.as_ref().map_err(String::clone).and(outcome);
-    report.line("shapes of spans met", asked(counts.met.covered()));
-    report.line("shapes of numbers changed", asked(counts.met.changed()));
-    for reason in Reason::ALL {
-        let name = format!("left out with the Rust, {}", reason.text());
-        report.line(&name, counts.left_out.outcome(reason));
-    }
+    counts.report(program, report);
 }
 
 /// What is counted over all sets.
 #[derive(Default)]
 struct Counts {
-    left_out: LeftOut,
+    left_out: LeftOut<Case>,
     coverage: Coverage,
     met: Met,
+}
+
+impl Counts {
+    fn report(&self, program: &Result<Program, String>, report: &mut Report) {
+        report.line("shapes of readings met", self.coverage.outcome());
+        let asked = |outcome| program.as_ref().map_err(String::clone).and(outcome);
+        report.line("shapes of spans met", asked(self.met.covered()));
+        report.line("shapes of numbers changed", asked(self.met.changed()));
+        report_left_out::<Case>(&self.left_out, "left out with the Rust", report);
+    }
 }
 
 /// A set of cases, and the sides held against each other over it.
@@ -121,7 +118,7 @@ struct Set<'a> {
     name: &'static str,
     program: &'a Result<Program, String>,
     counts: &'a mut Counts,
-    tests: Vec<Test>,
+    tests: [Test<Case>; 5],
     /// Demand 3, where it is checked.
     kept: Option<Kept>,
     waiting: Vec<(Case, Rc<Asked>)>,
@@ -140,7 +137,7 @@ impl<'a> Set<'a> {
             name,
             program,
             counts,
-            tests: Pair::ALL.map(|pair| Test::new(pair, name, wanted)).into(),
+            tests: Pair::ALL.map(|pair| Test::new(pair, name, wanted)),
             kept: None,
             waiting: Vec::new(),
             fault: None,
@@ -148,16 +145,21 @@ impl<'a> Set<'a> {
     }
 
     /// Checks demand 3 too, with each number changed in so many ways.
-    fn with_changes(self, ways: usize) -> Set<'a> {
-        Set {
-            kept: Some(Kept::new(self.name, ways)),
-            ..self
-        }
+    fn check_changes(&mut self, ways: usize) {
+        self.kept = Some(Kept::new(self.name, ways));
     }
 
-    fn add_table(&mut self, table: &Table, random: &mut Random) {
-        let words = any_words(table, random);
-        self.add(cases_of(table, &words, random));
+    fn add_tables(
+        &mut self,
+        count: usize,
+        any: impl Fn(&mut Random) -> Table,
+        random: &mut Random,
+    ) {
+        for _ in 0..count {
+            let table = any(random);
+            let words = any_words(&table, random);
+            self.add(cases_of(&table, &words, random));
+        }
     }
 
     /// Cases of one table.
@@ -180,7 +182,7 @@ impl<'a> Set<'a> {
             for test in &mut self.tests {
                 test.compare(&answers);
             }
-            self.counts.left_out.count(&answers);
+            leave_out(&mut self.counts.left_out, &answers);
             self.counts.coverage.add(&answers);
             if let (Some(kept), Some(ours)) = (&mut self.kept, ours.get(i)) {
                 kept.add(case, &asked.table, ours, &mut self.counts.met);
@@ -195,7 +197,7 @@ impl<'a> Set<'a> {
     fn ours<'c>(&mut self, cases: impl Iterator<Item = &'c Case>) -> Vec<String> {
         match self.program {
             Ok(program) if self.fault.is_none() => {
-                let answers = answers_of(program, cases);
+                let answers = program.answers_to(cases);
                 self.fault = answers.as_ref().err().cloned();
                 answers.unwrap_or_default()
             }
@@ -205,22 +207,30 @@ impl<'a> Set<'a> {
 
     fn report(mut self, report: &mut Report) {
         self.ask();
+        let asked = match (self.program, &self.fault) {
+            (Err(fault), _) | (_, Some(fault)) => Err(fault.clone()),
+            (Ok(program), None) => Ok(program),
+        };
         for test in &self.tests {
-            let outcome = match (self.program, &self.fault) {
-                (Err(missing), _) if test.pair.is_ours() => Err(missing.clone()),
-                (_, Some(fault)) if test.pair.is_ours() => Err(fault.clone()),
-                (program, _) => test.outcome(&|cases| ask_program(program.as_ref().ok(), cases)),
-            };
-            report.line(&test.name, outcome);
+            match &asked {
+                Err(fault) if test.pair.is_ours() => test.report_fault(fault, report),
+                _ => test.report(&|cases| ask_program(self.program, cases), report),
+            }
         }
         if let Some(kept) = self.kept {
-            let asked = match (self.program, &self.fault) {
-                (Err(fault), _) | (_, Some(fault)) => Err(fault.clone()),
-                (Ok(program), None) => Ok(program),
-            };
             for (name, outcome) in kept.outcomes(asked, &mut self.counts.met) {
                 report.line(&name, outcome);
             }
         }
     }
+}
+
+/// Asks the program, which answers nothing once it goes wrong.
+fn ask_program(program: &Result<Program, String>, cases: &[Case]) -> Vec<Option<Box<dyn Given>>> {
+    let answers = program
+        .as_ref()
+        .map(|program| program.answers_to(cases.iter()));
+    let texts = answers.ok().and_then(Result::ok).unwrap_or_default();
+    let given = |text: String| Some(Box::new(text) as Box<dyn Given>);
+    texts.into_iter().map(given).collect()
 }

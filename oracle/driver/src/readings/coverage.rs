@@ -2,12 +2,9 @@
 use super::case::Case;
 use super::sides::Answers;
 use super::told::working;
+use crate::payload::shapes::{Met, Shape, shapes};
 use model::numbers::{self, Kind};
 use model::reading::{Content, Fault, Reading, filled_length};
-use std::collections::BTreeMap;
-
-/// What is met at a kind of field, and what has no kind.
-type Shape = (Option<Kind>, &'static str);
 
 const NUMBERS: [&str; 4] = ["A", "N", "F 4", "F 9"];
 const OTHER_NUMBERS: [&str; 4] = ["A", "N", "F 2", "F 9"];
@@ -80,7 +77,7 @@ const OTHERS: [&str; 12] = [
 ];
 
 #[derive(Default)]
-pub struct Coverage(BTreeMap<Shape, usize>);
+pub struct Coverage(Met<Shape>);
 
 impl Coverage {
     pub fn add(&mut self, answers: &Answers) {
@@ -106,7 +103,7 @@ impl Coverage {
     }
 
     fn met(&mut self, kind: Option<Kind>, what: &'static str) {
-        *self.0.entry((kind, what)).or_default() += 1;
+        self.0.add((kind, what));
     }
 
     fn add_text(&mut self, answers: &Answers, kind: Kind, reading: &Reading) {
@@ -200,21 +197,6 @@ impl Coverage {
 
     /// How many shapes were met, or those that were not.
     pub fn outcome(&self) -> Result<String, String> {
-        let of_kinds = (OF_KINDS.iter())
-            .flat_map(|(kind, shapes)| shapes.iter().map(|&what| (Some(*kind), what)));
-        let wanted: Vec<Shape> = of_kinds.chain(OTHERS.map(|what| (None, what))).collect();
-        let missed: Vec<&Shape> = (wanted.iter())
-            .filter(|shape| !self.0.contains_key(*shape))
-            .collect();
-        if missed.is_empty() {
-            let least = wanted.iter().map(|shape| self.0[shape]).min();
-            Ok(format!(
-                "{} shapes, each {} times or more",
-                wanted.len(),
-                least.unwrap_or(0)
-            ))
-        } else {
-            Err(format!("not met: {missed:?}"))
-        }
+        self.0.outcome(&shapes(&OF_KINDS, &OTHERS), "shapes")
     }
 }

@@ -2,16 +2,17 @@
 //! the part of it that is touched, is not compared with it; it is counted, and each reason has to show a
 //! case that does differ.
 use super::answer::Answer;
+use super::asked::Asked;
 use super::case::Case;
-use super::sides::{Answers, Asked};
-use super::smallest::{is_smaller, shrink};
-use super::told::{Seen, Told, told, working};
+use super::told::{Seen, Told, working};
 use crate::numbers::differences::other_mark;
-use model::numbers::{self, Kind};
+use crate::payload::described::number_field;
+use crate::tally;
+use model::numbers::Kind;
 use model::reading::{Content, Fault, PADDING, Reading};
 use model::tables::{PAYLOAD_MAX, Table};
 
-#[derive(Clone, Copy, Debug, PartialEq, Eq)]
+#[derive(Clone, Copy, Debug, PartialEq, Eq, PartialOrd, Ord)]
 pub enum Reason {
     Mark,
     MmsiZero,
@@ -21,8 +22,8 @@ pub enum Reason {
     RefusedTable,
 }
 
-impl Reason {
-    pub const ALL: [Reason; 6] = [
+impl tally::Reason for Reason {
+    const ALL: &'static [Reason] = &[
         Reason::Mark,
         Reason::MmsiZero,
         Reason::LengthByte,
@@ -30,9 +31,10 @@ impl Reason {
         Reason::PaddingRun,
         Reason::RefusedTable,
     ];
+    const COUNTED: [&'static str; 2] = ["", ""];
 
-    /// What the Rust does, and what is left out.
-    pub fn text(self) -> &'static str {
+    /// What is left out comes first.
+    fn text(self) -> &'static str {
         match self {
             Reason::Mark => {
                 "value of a reading, f32 or f64 by width, sign and resolution, not by the mark"
@@ -77,6 +79,13 @@ impl Excused {
             refusal: of_refusal(&asked.table, case, model, stopped),
         }
     }
+
+    /// One for each part that is not compared.
+    pub fn reasons(&self) -> Vec<Reason> {
+        let of_case = [self.whole, self.refusal].into_iter();
+        let of_readings = (self.readings.iter()).flat_map(|one| [one.value, one.availability]);
+        of_case.chain(of_readings).flatten().collect()
+    }
 }
 
 /// The Rust has neither 7 nor 8.
@@ -92,15 +101,10 @@ fn whole(asked: &Asked, case: &Case) -> Option<Reason> {
 
 fn of_reading(table: &Table, reading: &Reading) -> ExcusedReading {
     let field = &table.fields[reading.field];
-    let (Content::Number { raw, .. }, Some(width)) = (reading.content, field.width) else {
+    let Content::Number { raw, .. } = reading.content else {
         return ExcusedReading::default();
     };
-    let number = numbers::Field {
-        kind: field.kind,
-        width,
-        signed: field.signed,
-        scale: field.scale,
-    };
+    let number = number_field(field);
     let is_other = (field.scale).is_some_and(|scale| other_mark(&number, scale));
     let is_zero = field.kind == Kind::Mmsi && raw == 0;
     ExcusedReading {
@@ -136,56 +140,10 @@ fn same_reading(excuse: ExcusedReading, one: &Seen, other: &Seen) -> bool {
         && (one.available == other.available || excuse.availability.is_some())
 }
 
-/// The cases and parts of cases left out for each reason.
-#[derive(Default)]
-pub struct LeftOut {
-    met: [usize; Reason::ALL.len()],
-    differing: [usize; Reason::ALL.len()],
-    smallest: [Option<Case>; Reason::ALL.len()],
-}
-
-impl LeftOut {
-    pub fn count(&mut self, answers: &Answers) {
-        let excused = &answers.excused;
-        let of_readings =
-            (excused.readings.iter()).flat_map(|one| one.value.iter().chain(&one.availability));
-        let of_case = excused.whole.iter().chain(&excused.refusal);
-        for &reason in of_case.chain(of_readings) {
-            self.met[reason as usize] += 1;
-        }
-        for reason in parting(answers) {
-            let i = reason as usize;
-            self.differing[i] += 1;
-            let known = self.smallest[i].as_ref();
-            if known.is_none_or(|known| is_smaller(answers.case, known)) {
-                self.smallest[i] = Some(answers.case.clone());
-            }
-        }
-    }
-
-    /// The count of a reason, which fails if no case differs: it would leave cases out for nothing.
-    pub fn outcome(&self, reason: Reason) -> Result<String, String> {
-        let i = reason as usize;
-        let (met, differing) = (self.met[i], self.differing[i]);
-        let Some(case) = &self.smallest[i] else {
-            return Err(format!("none of {met} differs"));
-        };
-        Ok(format!(
-            "{met}, {differing} differ, such as{}",
-            shown(case, reason)
-        ))
-    }
-}
-
 /// The reasons under which the Rust does differ in a case, one for each part.
-fn parting(answers: &Answers) -> Vec<Reason> {
-    let Some(rust) = &answers.rust else {
-        return Vec::new();
-    };
-    let excused = &answers.excused;
-    let model = told(&answers.model, answers.case, false);
+pub fn parting(excused: &Excused, model: &Told, rust: &Told) -> Vec<Reason> {
     if let Some(reason) = excused.whole {
-        return if model == *rust { vec![] } else { vec![reason] };
+        return if model == rust { vec![] } else { vec![reason] };
     }
     let mut all = Vec::new();
     let pairs = model.readings.iter().zip(&rust.readings);
@@ -195,35 +153,4 @@ fn parting(answers: &Answers) -> Vec<Reason> {
     }
     all.extend(excused.refusal.filter(|_| model.refusal != rust.refusal));
     all
-}
-
-/// The case made as small as it gets, and both answers.
-fn shown(case: &Case, reason: Reason) -> String {
-    let parts = |case: &Case| {
-        let asked = Asked::new(&case.words);
-        parting(&Answers::new(case, &asked, None)).contains(&reason)
-    };
-    let case = shrink(case, &mut |steps| steps.iter().position(parts));
-    let asked = Asked::new(&case.words);
-    let answers = Answers::new(&case, &asked, None);
-    let rust = answers.rust.as_ref().map_or(String::new(), Told::text);
-    format!(
-        "\n  {}\n  there: {}\n  here: {}",
-        short_line(&case),
-        rust.trim_end().replace('\n', ", "),
-        answers.model.text().trim_end().replace('\n', ", ")
-    )
-}
-
-/// The case as a line, without the middle of a long payload.
-fn short_line(case: &Case) -> String {
-    const SHOWN: usize = 60;
-    let (line, length) = (case.line(), case.payload.len());
-    match 2 * length {
-        0..=SHOWN => line,
-        digits => format!(
-            "{}.. ({length} bytes)",
-            &line[..line.len() - digits + SHOWN]
-        ),
-    }
 }

@@ -1,37 +1,41 @@
 //! Small tables whose payloads are gone through one by one.
-use super::case::{AMPLE, Case};
-use crate::tables::built_in::{bare, field, number, set, signed, sized, table};
+use super::case::Case;
+use crate::payload::exhaustive::{after, every_counter, every_kind};
+use crate::tables::built_in::{bare, field, number, set, sized, table};
 use crate::tables::words::pack;
 use model::numbers::Kind;
-use model::reading::PADDING;
-use model::tables::{self, Field, Table};
+use model::tables::{self, Table};
 
 /// What is done with the cases of a table.
 type Each<'a> = &'a mut dyn FnMut(Vec<Case>);
 
 fn cases(table: &Table, payloads: impl Iterator<Item = Vec<u8>>) -> Vec<Case> {
     let words = pack(table);
-    let case = |payload| Case {
-        room: AMPLE,
-        padding: PADDING,
-        words: words.clone(),
-        payload,
-    };
-    payloads.map(case).collect()
+    payloads
+        .map(|payload| Case::usual(words.clone(), payload))
+        .collect()
+}
+
+/// Every set of cases, with counters of up to so many bits.
+pub fn all(counter_bits: u32, each: Each) {
+    every_kind(|table, field, before| {
+        let bits = before + field.width.unwrap_or(0);
+        each(cases(table, ends(bits)));
+    });
+    texts(each);
+    fixed_texts(each);
+    fillings(each);
+    // With room for few elements or many.
+    every_counter(counter_bits, |table, _, raw| {
+        each(cases(table, (0..=8).map(|size| counted(raw, size))));
+    });
 }
 
 /// Widths of a number that a field follows: none, and one that leaves it aligned or not.
 const BEFORE: [u32; 3] = [0, 4, 8];
 
-fn after(width: u32, field: Field) -> Vec<Field> {
-    match width {
-        0 => vec![field],
-        width => vec![number(width), field],
-    }
-}
-
 /// Every length byte of both texts, with as much as it asks for, one byte more and one less, and a little.
-pub fn texts(each: Each) {
+fn texts(each: Each) {
     for kind in [Kind::StringLz, Kind::StringLau] {
         for before in BEFORE {
             let table = table(&after(before, bare(kind)), &[]);
@@ -60,21 +64,6 @@ fn text_payloads(before: u32, length: u8) -> impl Iterator<Item = Vec<u8>> {
     })
 }
 
-/// Every counter of up to `most` bits, with room for few elements or many, and small and large maxima.
-pub fn counters(most: u32, each: Each) {
-    for counter in 1..=most {
-        for width in [1, 7, 8, 12] {
-            for maximum in [1, 2, 255] {
-                let fields = [number(counter), number(width)];
-                let table = table(&fields, &[set(1, 1, 0, maximum)]);
-                for raw in 0..1u64 << counter {
-                    each(cases(&table, (0..=8).map(|size| counted(raw, size))));
-                }
-            }
-        }
-    }
-}
-
 fn counted(raw: u64, size: usize) -> Vec<u8> {
     let mut payload = raw.to_le_bytes().to_vec();
     payload.truncate(size);
@@ -82,7 +71,7 @@ fn counted(raw: u64, size: usize) -> Vec<u8> {
 }
 
 /// Every length and minimum up to 9, or none, and every payload up to one byte more.
-pub fn fillings(each: Each) {
+fn fillings(each: Each) {
     for length in 0..=9 {
         for minimum in 0..=9 {
             let table = sized(length, minimum, &[number(16), field(Kind::StringFix, 24)]);
@@ -95,7 +84,7 @@ pub fn fillings(each: Each) {
 }
 
 /// A StringFix around the size from which on it may stop early: last, not last, in a set; aligned or not.
-pub fn fixed_texts(each: Each) {
+fn fixed_texts(each: Each) {
     for bytes in 31..=35 {
         let text = field(Kind::StringFix, 8 * bytes);
         for before in BEFORE {
@@ -117,23 +106,7 @@ pub fn fixed_texts(each: Each) {
     }
 }
 
-/// Every kind at every width that is accepted, signed and not, aligned and not: raws of zeros, of ones,
-/// the largest positive, and one byte too few.
-pub fn kinds(each: Each) {
-    for kind in tables::KINDS {
-        for width in 1..=1784 {
-            for described in [field(kind, width), signed(field(kind, width))] {
-                for before in [0, 3] {
-                    let table = table(&after(before, described), &[]);
-                    if tables::check(&table).is_ok() {
-                        each(cases(&table, ends(before + width)));
-                    }
-                }
-            }
-        }
-    }
-}
-
+/// Raws of zeros, of ones, the largest positive, and one byte too few.
 fn ends(bits: u32) -> impl Iterator<Item = Vec<u8>> {
     let size = bits.div_ceil(8) as usize;
     let mut largest = vec![0xFF; size];

@@ -6,10 +6,10 @@ use super::changes::{Change, Way, is_changed};
 use super::cover::cover;
 use super::met::Met;
 use super::program::Program;
-use super::smallest::is_smaller;
-use super::test::answers_of;
 use crate::cases::SEED;
+use crate::payload::smaller::Smaller;
 use crate::random::Random;
+use crate::tally::Differing;
 use model::reading::{Content, Reading, filled_length};
 use model::tables::Table;
 use std::rc::Rc;
@@ -57,17 +57,8 @@ enum Wanted {
     NoRoom,
 }
 
-#[derive(Default)]
-struct Test {
-    cases: usize,
-    failing: usize,
-    smallest: Option<Failure>,
-}
-
-struct Failure {
-    case: Case,
-    shown: String,
-}
+/// The cases that fail, and the smallest of them as it is shown.
+type Test = Differing<(Case, String)>;
 
 impl Kept {
     pub fn new(set: &'static str, ways: usize) -> Kept {
@@ -96,7 +87,7 @@ impl Kept {
             None => Err("the lines are not of the form, or are not as many as E says".to_string()),
         };
         let fails = covered.map_err(|why| shown(case, text, None, &why));
-        self.cover.add(case, fails);
+        add(&mut self.cover, case, fails);
         if let Some(answer) = answer
             && self.random.up_to(ONE_IN - 1) == 0
         {
@@ -160,7 +151,7 @@ impl Kept {
         if self.fault.is_some() {
             return;
         }
-        let answers = answers_of(program, waiting.iter().map(|probe| &probe.case));
+        let answers = program.answers_to(waiting.iter().map(|probe| &probe.case));
         self.fault = answers.as_ref().err().cloned();
         for (probe, after) in waiting.iter().zip(answers.unwrap_or_default()) {
             let test = match probe.wanted {
@@ -171,7 +162,7 @@ impl Kept {
             let fails = probe
                 .holds(&after, met)
                 .map_err(|why| shown(case, text, Some((&probe.case, &after)), &why));
-            test.add(case, fails);
+            add(test, case, fails);
         }
     }
 
@@ -185,29 +176,24 @@ impl Kept {
             self.ask(program, met);
         }
         let fault = program.err().or(self.fault.take());
-        let outcome = |test: &Test, met: String| match &fault {
+        let held = |test: &Test, met: String| match &fault {
             Some(fault) => Err(fault.clone()),
-            None => test.outcome(&met),
+            None => outcome(test, &met),
         };
         let ways = Way::ALL.map(|way| format!("{}: {}", way.name(), self.ways_met[way as usize]));
         let ways = format!("payloads ({})", ways.join(", "));
         let [enough, less] = self.rooms_met;
         let rooms = format!("rooms (just enough: {enough}, one too few: {less})");
-        let name = |what: &str| format!("{what}, {}", self.set);
         [
             (
-                name("readings cover the payload"),
-                outcome(&self.cover, "cases".to_string()),
+                "readings cover the payload",
+                &self.cover,
+                "cases".to_string(),
             ),
-            (
-                name("readings with a number changed"),
-                outcome(&self.change, ways),
-            ),
-            (
-                name("readings where room is short"),
-                outcome(&self.room, rooms),
-            ),
+            ("readings with a number changed", &self.change, ways),
+            ("readings where room is short", &self.room, rooms),
         ]
+        .map(|(what, test, met)| (format!("{what}, {}", self.set), held(test, met)))
     }
 }
 
@@ -275,30 +261,23 @@ fn without_last(text: &str, answer: &Answer) -> String {
     lines.flat_map(|line| [line, "\n"]).collect()
 }
 
-impl Test {
-    fn add(&mut self, case: &Case, fails: Result<(), String>) {
-        self.cases += 1;
-        let Err(shown) = fails else { return };
-        self.failing += 1;
-        let known = self.smallest.as_ref();
-        if known.is_none_or(|known| is_smaller(case, &known.case)) {
-            self.smallest = Some(Failure {
-                case: case.clone(),
-                shown,
-            });
-        }
+fn add(test: &mut Test, case: &Case, fails: Result<(), String>) {
+    test.met += 1;
+    if let Err(shown) = fails {
+        let is_smaller = |known: &(Case, _)| case.is_smaller(&known.0);
+        test.add(is_smaller, || (case.clone(), shown));
     }
+}
 
-    fn outcome(&self, met: &str) -> Result<String, String> {
-        let cases = self.cases;
-        match &self.smallest {
-            Some(failure) => Err(format!(
-                "{} of {cases} fail, such as\n  {}",
-                self.failing, failure.shown
-            )),
-            None if cases == 0 => Err("no case decodes".to_string()),
-            None => Ok(format!("{cases} {met}")),
-        }
+fn outcome(test: &Test, met: &str) -> Result<String, String> {
+    let cases = test.met;
+    match &test.smallest {
+        Some((_, shown)) => Err(format!(
+            "{} of {cases} fail, such as\n  {shown}",
+            test.count
+        )),
+        None if cases == 0 => Err("no case decodes".to_string()),
+        None => Ok(format!("{cases} {met}")),
     }
 }
 

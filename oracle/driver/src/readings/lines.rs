@@ -1,15 +1,12 @@
 //! Lines of input: the cases that they are, and their answers.
+use super::asked::Asked;
 use super::case::Case;
 use super::cases::LONGEST;
-use super::sides::{Answers, Asked};
-use std::io::{self, BufRead, BufWriter, Write, stdin, stdout};
+use super::sides::Answers;
+use crate::payload::lines::{MALFORMED, answer_lines, parsed_bytes, parsed_decimal, parsed_word};
 
-/// What a line that is not of the form is answered with.
-pub const MALFORMED: &str = "F 14\n";
-
-/// The words that a line has at most, and the digits of a word.
+/// The words that a line has at most.
 pub const WORDS_MAX: usize = 200;
-const DIGITS_MAX: usize = 16;
 
 /// Which side answers.
 #[derive(Clone, Copy)]
@@ -22,11 +19,7 @@ pub enum Side {
 /// Answers each line of standard input: the model as the program under test has to, the others as far as
 /// they tell. True if all of it could be read and written.
 pub fn answer_input(side: Side) -> bool {
-    let mut output = BufWriter::new(stdout().lock());
-    let mut answer =
-        |line: io::Result<Vec<u8>>| output.write_all(answered(&line?, side).as_bytes());
-    let mut lines = stdin().lock().split(b'\n');
-    lines.try_for_each(&mut answer).is_ok() && output.flush().is_ok()
+    answer_lines(|line| answered(line, side)).is_ok()
 }
 
 pub fn answered(line: &[u8], side: Side) -> String {
@@ -58,32 +51,4 @@ fn parsed(line: &str) -> Option<Case> {
     };
     let fits = case.padding <= LONGEST && case.payload.len() <= LONGEST;
     fits.then_some(case)
-}
-
-pub fn parsed_decimal(text: &str) -> Option<u64> {
-    let digits = text.bytes().all(|byte| byte.is_ascii_digit());
-    text.parse().ok().filter(|_| digits)
-}
-
-fn is_hex(text: &str) -> bool {
-    text.bytes()
-        .all(|byte| matches!(byte, b'0'..=b'9' | b'A'..=b'F'))
-}
-
-pub fn parsed_word(text: &str) -> Option<u64> {
-    let fits = is_hex(text) && text.len() <= DIGITS_MAX;
-    let is_short = text == "0" || !text.starts_with('0');
-    u64::from_str_radix(text, 16)
-        .ok()
-        .filter(|_| fits && is_short)
-}
-
-pub fn parsed_bytes(text: &str) -> Option<Vec<u8>> {
-    if text == "-" {
-        return Some(Vec::new());
-    }
-    let fits = is_hex(text) && !text.is_empty() && text.len().is_multiple_of(2);
-    let pairs = (0..text.len()).step_by(2).filter(|_| fits);
-    let bytes = pairs.map(|at| u8::from_str_radix(&text[at..at + 2], 16).ok());
-    bytes.collect::<Option<Vec<u8>>>().filter(|_| fits)
 }

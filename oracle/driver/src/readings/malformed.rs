@@ -1,7 +1,8 @@
 //! Lines that are not of the form.
 use super::cases::LONGEST;
-use super::lines::{MALFORMED, Side, WORDS_MAX, answered};
+use super::lines::{Side, WORDS_MAX, answered};
 use super::program::Program;
+use crate::payload::lines::MALFORMED;
 use crate::report::Report;
 
 pub fn run(program: &Result<Program, String>, report: &mut Report) {

@@ -1,22 +1,7 @@
 //! What was met where demand 3 is checked.
+use crate::numbers::cases::KINDS;
+use crate::payload::shapes;
 use model::numbers::Kind;
-use std::collections::BTreeMap;
-
-/// The kinds that have a raw; a Binary where it is not of whole bytes.
-const KINDS: [Kind; 12] = [
-    Kind::BitLookup,
-    Kind::Number,
-    Kind::Lookup,
-    Kind::IndirectLookup,
-    Kind::Pgn,
-    Kind::IsoName,
-    Kind::Float,
-    Kind::Binary,
-    Kind::Date,
-    Kind::Mmsi,
-    Kind::Duration,
-    Kind::Time,
-];
 
 /// What else has to be met where bits are changed.
 const CHANGED: [&str; 11] = [
@@ -47,17 +32,17 @@ const COVERED: [&str; 8] = [
 
 #[derive(Default)]
 pub struct Met {
-    kinds: BTreeMap<Kind, usize>,
-    others: BTreeMap<&'static str, usize>,
+    kinds: shapes::Met<Kind>,
+    others: shapes::Met<&'static str>,
 }
 
 impl Met {
     pub fn add(&mut self, what: &'static str) {
-        *self.others.entry(what).or_default() += 1;
+        self.others.add(what);
     }
 
     pub fn add_kind(&mut self, kind: Kind) {
-        *self.kinds.entry(kind).or_default() += 1;
+        self.kinds.add(kind);
     }
 
     /// How often each was met, or what was not.
@@ -67,31 +52,14 @@ impl Met {
 
     /// The same for what was changed.
     pub fn changed(&self) -> Result<String, String> {
-        let missed: Vec<&Kind> = (KINDS.iter())
-            .filter(|kind| !self.kinds.contains_key(kind))
-            .collect();
-        if !missed.is_empty() {
-            return Err(format!("not met: {missed:?}"));
-        }
-        let least = KINDS.iter().map(|kind| self.kinds[kind]).min();
-        Ok(format!(
-            "{} kinds, each {} times or more; {}",
-            KINDS.len(),
-            least.unwrap_or(0),
-            self.named(&CHANGED)?
-        ))
+        let kinds = self.kinds.outcome(&KINDS, "kinds")?;
+        Ok(format!("{kinds}; {}", self.named(&CHANGED)?))
     }
 
     fn named(&self, wanted: &[&'static str]) -> Result<String, String> {
-        let missed: Vec<&&str> = (wanted.iter())
-            .filter(|what| !self.others.contains_key(*what))
-            .collect();
-        if !missed.is_empty() {
-            return Err(format!("not met: {missed:?}"));
-        }
-        let counts = wanted
-            .iter()
-            .map(|what| format!("{what}: {}", self.others[what]));
+        let counts = self.others.counts(wanted)?;
+        let counts = wanted.iter().zip(counts);
+        let counts = counts.map(|(what, count)| format!("{what}: {count}"));
         Ok(counts.collect::<Vec<String>>().join(", "))
     }
 }

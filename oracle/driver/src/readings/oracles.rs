@@ -1,73 +1,20 @@
 //! The two oracles, the Rust unchanged and the one with stand-ins, asked to read a payload. They have the
 //! same types under two names, so what makes and reads those is written once.
 use super::told::{Refused, Seen, Told, What};
-use model::numbers;
-use model::tables::{Field, Table, WIDTH_MAX};
+use crate::payload::described::number_of;
+use model::tables::Table;
 
 /// A number for refusals that no accepted table should meet.
 const OTHER_REFUSAL: u32 = 99;
 
-/// The names of fields and sets: two digits of these for each number.
-const NAMES: &str = "0001020304050607080910111213141516171819202122232425262728293031\
-                     3233343536373839404142434445464748495051525354555657585960616263";
-
-/// A field or a set by its number. Refused tables that are asked have few fields.
-pub fn name_of(number: usize) -> &'static str {
-    &NAMES[2 * number..][..2]
-}
-
-pub fn number_of(name: &str) -> usize {
-    name.parse().expect("a name is a number")
-}
-
 macro_rules! reading_of {
-    ($krate:ident, $numbers:ident) => {
-        use super::{Field, OTHER_REFUSAL, Refused, Seen, Table, Told, What};
-        use super::{name_of, number_field, number_of};
-        use crate::numbers::oracles::$numbers::{descriptor, from_rust};
-        use ::$krate::core::{
-            Availability, FieldDescriptor, FieldKind, PgnDescriptor, PgnValue, RepeatingFieldSet,
-        };
+    ($krate:ident, $types:ident) => {
+        use super::{OTHER_REFUSAL, Refused, Seen, Table, Told, What, number_of};
+        use crate::oracle_types::$types::from_rust;
+        use crate::payload::described::$types::described;
+        use ::$krate::core::{Availability, FieldDescriptor, FieldKind, PgnDescriptor, PgnValue};
         use ::$krate::error::{BitReaderError, DeserializationError};
         use ::$krate::infra::codec::engine::{FieldReading, for_each_field};
-
-        fn described((number, field): (usize, &Field)) -> FieldDescriptor {
-            FieldDescriptor {
-                id: name_of(number),
-                bits_length: field.width,
-                ..descriptor(&number_field(field))
-            }
-        }
-
-        /// A table for the rest of the run: the Rust wants it that long.
-        pub fn leaked(table: &Table) -> &'static PgnDescriptor {
-            let fields = table.fields.iter().enumerate().map(described);
-            let sets = table
-                .sets
-                .iter()
-                .enumerate()
-                .map(|(number, set)| RepeatingFieldSet {
-                    array_id: name_of(number),
-                    count_field_index: Some(set.counter),
-                    start_field_index: set.start,
-                    size: set.size,
-                    max_repetitions: set.maximum,
-                });
-            Box::leak(Box::new(PgnDescriptor {
-                id: 0,
-                name: "",
-                description: "",
-                priority: None,
-                fastpacket: false,
-                length: table.length.map(|length| length as u16),
-                min_length: table.minimum.map(|minimum| minimum as u16),
-                field_count: None,
-                trans_interval: None,
-                trans_irregular: None,
-                fields: fields.collect::<Vec<_>>().leak(),
-                repeating_field_sets: sets.collect::<Vec<_>>().leak(),
-            }))
-        }
 
         fn index(table: &PgnDescriptor, field: &FieldDescriptor) -> usize {
             let address = std::ptr::from_ref(field).addr();
@@ -162,18 +109,6 @@ macro_rules! reading_of {
     };
 }
 
-/// A field as one that holds a number, of which the descriptors of numbers are made. A width that no
-/// number has stands for one without a raw that is "not available".
-fn number_field(field: &Field) -> numbers::Field {
-    let width = field.width.filter(|&width| width <= WIDTH_MAX);
-    numbers::Field {
-        kind: field.kind,
-        width: width.unwrap_or(1),
-        signed: field.signed,
-        scale: field.scale,
-    }
-}
-
 /// The Rust unchanged, through its public call.
 pub mod rust {
     reading_of!(korri_n2k, rust);
@@ -182,7 +117,7 @@ pub mod rust {
 
     impl Asked {
         pub fn new(table: &Table) -> Asked {
-            Asked(leaked(table))
+            Asked(described(table))
         }
 
         /// The table as the Rust has it.
@@ -200,10 +135,12 @@ pub mod rust {
 /// functions.
 pub mod standin {
     use ::standin::core::MAX_PGN_BYTES;
+    use ::standin::core::RepeatingFieldSet;
     use ::standin::infra::codec::bits::BitReader;
     use ::standin::infra::codec::engine::open;
     use ::standin::marks::{self, Marked};
     use model::numbers::{Kind, Mark};
+    use model::tables::Field;
     reading_of!(standin, standin);
 
     pub struct Asked {
@@ -214,7 +151,7 @@ pub mod standin {
     impl Asked {
         pub fn new(table: &Table) -> Asked {
             Asked {
-                table: leaked(table),
+                table: described(table),
                 marks: table.fields.iter().filter_map(marked).collect(),
             }
         }

@@ -1,7 +1,9 @@
 //! Answers read from text, so that one that the model does not give can be held against the Rust.
 use super::answer::Answer;
-use model::Refusal;
-use model::numbers::{Value, ValueKind};
+use super::refusal;
+use crate::numbers::value_kinds::value_kind_named;
+use crate::payload::lines::parsed_bytes;
+use model::numbers::Value;
 use model::reading::{Content, Fault, Reading};
 
 impl Answer {
@@ -40,7 +42,7 @@ fn parsed_reading(line: &str) -> Option<Reading> {
         (raw, kind, [digits]) => Content::Number {
             raw: u64::from_str_radix(raw, 16).ok()?,
             value: Value {
-                kind: parsed_kind(kind)?,
+                kind: value_kind_named(kind)?,
                 bits: u64::from_str_radix(digits, 16).ok()?,
             },
         },
@@ -74,11 +76,6 @@ fn parsed_element(text: &str) -> Option<Option<usize>> {
     }
 }
 
-fn parsed_kind(name: &str) -> Option<ValueKind> {
-    let kinds = crate::numbers::case::VALUE_KINDS;
-    kinds.into_iter().find(|kind| format!("{kind:?}") == name)
-}
-
 /// The count of an `E` line has to be that of the readings.
 fn parsed_outcome(line: &str, count: usize) -> Option<Result<usize, Fault>> {
     if let Some(words) = line.strip_prefix("E ") {
@@ -86,57 +83,5 @@ fn parsed_outcome(line: &str, count: usize) -> Option<Result<usize, Fault>> {
         let end = end.parse().ok()?;
         return (given.parse() == Ok(count)).then_some(Ok(end));
     }
-    let words: Vec<&str> = line.strip_prefix("F ")?.split(' ').collect();
-    let number = |text: &str| text.parse::<usize>().ok();
-    let fault = match words[..] {
-        ["1", field, max, width] => Fault::Bits {
-            field: number(field)?,
-            refusal: Refusal::Width {
-                max: max.parse().ok()?,
-                width: width.parse().ok()?,
-            },
-        },
-        ["2", field, asked, available] => Fault::Bits {
-            field: number(field)?,
-            // The text does not tell the unit, and what it is held against does not either.
-            refusal: Refusal::BeyondBits {
-                asked: number(asked)?,
-                available: number(available)?,
-            },
-        },
-        ["3", field, cursor] => Fault::Bits {
-            field: number(field)?,
-            refusal: Refusal::Unaligned {
-                cursor: number(cursor)?,
-            },
-        },
-        ["4", field] => Fault::Cut {
-            field: number(field)?,
-        },
-        ["5", set, count, maximum] => Fault::Elements {
-            set: number(set)?,
-            count: count.parse().ok()?,
-            maximum: number(maximum)?,
-        },
-        ["7", length] => Fault::Length(number(length)?),
-        ["8", letter, index] => Fault::Table((letter.parse().ok()?, number(index)?)),
-        ["9", field] => Fault::NoRoom {
-            field: number(field)?,
-        },
-        _ => return None,
-    };
-    Some(Err(fault))
-}
-
-fn parsed_bytes(text: &str) -> Option<Vec<u8>> {
-    if text == "-" {
-        return Some(Vec::new());
-    }
-    if !text.is_ascii() || !text.len().is_multiple_of(2) {
-        return None;
-    }
-    let pairs = (0..text.len()).step_by(2);
-    pairs
-        .map(|at| u8::from_str_radix(&text[at..at + 2], 16).ok())
-        .collect()
+    Some(Err(refusal::parsed(line.strip_prefix("F ")?)?))
 }

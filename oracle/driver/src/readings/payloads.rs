@@ -72,6 +72,29 @@ impl Maker<'_> {
         }
     }
 
+    /// A length byte and a text, mostly with its zero.
+    fn put_lz(&mut self, length: usize, random: &mut Random) {
+        self.put(length as u64, 8);
+        self.put_bytes(&any_bytes(length, random));
+        match random.up_to(3) {
+            0 => {}
+            1 => self.put(random.next() | 1, 8),
+            _ => self.put(0, 8),
+        }
+    }
+
+    fn put_lau(&mut self, text: usize, random: &mut Random) {
+        match (text, random.up_to(2)) {
+            (0, 0) => self.put(0, 8),
+            (0, 1) => self.put(1, 8),
+            (text, _) => {
+                self.put(text as u64 + 2, 8);
+                self.put(random.next(), 8);
+                self.put_bytes(&any_bytes(text, random));
+            }
+        }
+    }
+
     fn put_field(&mut self, i: usize, random: &mut Random) {
         if self.is_full() {
             return;
@@ -79,28 +102,8 @@ impl Maker<'_> {
         let field = &self.table.fields[i];
         let is_aligned = self.bits.len().is_multiple_of(8);
         match (field.kind, field.width) {
-            (Kind::StringLz, _) => {
-                let length = any_length(is_aligned, random);
-                self.put(length as u64, 8);
-                self.put_bytes(&any_bytes(length, random));
-                match random.up_to(3) {
-                    0 => {}
-                    1 => self.put(random.next() | 1, 8),
-                    _ => self.put(0, 8),
-                }
-            }
-            (Kind::StringLau, _) => {
-                let text = any_length(is_aligned, random);
-                match (text, random.up_to(2)) {
-                    (0, 0) => self.put(0, 8),
-                    (0, 1) => self.put(1, 8),
-                    (text, _) => {
-                        self.put(text as u64 + 2, 8);
-                        self.put(random.next(), 8);
-                        self.put_bytes(&any_bytes(text, random));
-                    }
-                }
-            }
+            (Kind::StringLz, _) => self.put_lz(any_length(is_aligned, random), random),
+            (Kind::StringLau, _) => self.put_lau(any_length(is_aligned, random), random),
             (Kind::StringFix, Some(width)) => {
                 let size = width as usize / 8;
                 let is_last = i + 1 == self.table.fields.len();
@@ -115,7 +118,7 @@ impl Maker<'_> {
             }
             (_, width) => {
                 let raw = match self.table.sets.iter().any(|set| set.counter == i) {
-                    true => any_count(self.table, i, random),
+                    true => any_count(self.table, i, 10, random),
                     false => any_raw(field, random),
                 };
                 self.raws[i] = raw;
@@ -169,17 +172,18 @@ fn any_raw(field: &Field, random: &mut Random) -> u64 {
     }
 }
 
-/// A counter's raw: few elements, around a maximum, all ones, or any.
-fn any_count(table: &Table, counter: usize, random: &mut Random) -> u64 {
-    let field = &table.fields[counter];
-    let ones = u64::MAX >> (64 - field.width.unwrap_or(64).min(64));
+/// A counter's raw: few elements, as many as there may be, one more, all ones, or any, each of these one in so
+/// many.
+pub fn any_count(table: &Table, counter: usize, one_in: usize, random: &mut Random) -> u64 {
+    let width = table.fields[counter].width.unwrap_or(64);
+    let ones = u64::MAX >> (64 - width.min(64));
     let mut sets = table.sets.iter().filter(|set| set.counter == counter);
-    let maximum = sets.next().map_or(0, |set| set.maximum);
-    let raw = match random.up_to(9) {
+    let maximum = sets.next().map_or(0, |set| set.maximum as u64);
+    let raw = match random.up_to(one_in - 1) {
         0 => ones,
         1 => random.next(),
-        2 => maximum as u64,
-        3 => maximum as u64 + 1,
+        2 => maximum,
+        3 => maximum + 1,
         _ => random.up_to(4) as u64,
     };
     raw & ones

@@ -1,4 +1,5 @@
 //! The program under test, fed through pipes.
+use super::case::Case;
 use std::io::{Read, Write};
 use std::path::{Path, PathBuf};
 use std::process::{Command, Stdio};
@@ -33,6 +34,15 @@ impl Program {
         ))
     }
 
+    /// The answers to cases.
+    pub fn answers_to<'a>(
+        &self,
+        cases: impl Iterator<Item = &'a Case>,
+    ) -> Result<Vec<String>, String> {
+        let lines: Vec<String> = cases.map(Case::line).collect();
+        self.answers(&lines)
+    }
+
     /// The answers to lines, one for each.
     pub fn answers(&self, lines: &[String]) -> Result<Vec<String>, String> {
         let run = self.run(lines)?;
@@ -52,10 +62,21 @@ impl Program {
         Err(format!("{text}, which begin\n  {first}"))
     }
 
+    /// The program is for x86-64: on another processor build.rs names what runs it there.
+    fn command(&self) -> Command {
+        let Some(runs) = option_env!("SAMOPUTE_RUN") else {
+            return Command::new(&self.0);
+        };
+        let mut command = Command::new("sh");
+        command.arg(runs).arg(&self.0);
+        command
+    }
+
     /// A thread writes while this one reads, so that neither pipe can stop the other.
     fn run(&self, lines: &[String]) -> Result<Run, String> {
         let failed = |error| format!("{} cannot be run: {error}", self.0.display());
-        let mut child = Command::new(&self.0)
+        let mut child = self
+            .command()
             .stdin(Stdio::piped())
             .stdout(Stdio::piped())
             .spawn()

@@ -1,20 +1,23 @@
 //! The sample on readings: a fixed list of cases and the answers of the model, which the oracle with
 //! stand-ins gives as well wherever it speaks, to be replayed without Rust.
 use super::answer::Answer;
+use super::asked::Asked;
 use super::by_hand;
-use super::case::{AMPLE, Case};
-use super::cases::{LONGEST, any_room, any_words, cases_of, refused_cases};
+use super::case::Case;
+use super::cases::{LONGEST, any_room, cases_of, refused_cases};
 use super::payloads::{damaged, made, sized};
-use super::sides::{Answers, Asked, Pair};
-use super::small_tables::{any_field_of, any_small_table};
-use crate::cases::SEED;
+use super::sides::Answers;
+use super::worked::Worked;
+use crate::pair::Pair;
+use crate::payload::held::Answered;
 use crate::random::Random;
+use crate::sampled::Sampled;
 use crate::tables::built_in::{self, number};
-use crate::tables::words::pack;
+use crate::tables::small::{any_field_of, any_small_table};
+use crate::tables::words::{any_words, pack};
 use model::numbers::Kind;
 use model::reading::{Fault, PADDING};
 use model::tables::{KINDS, PAYLOAD_MAX, Table};
-use std::collections::HashSet;
 
 /// The longest table, in fields, but for those that are built in.
 const FIELDS: usize = 6;
@@ -32,13 +35,10 @@ pub fn print_answers() {
 }
 
 fn sample() -> Vec<(Case, Answer)> {
-    let mut sample = Sample {
-        random: Random::new(SEED),
-        known: HashSet::new(),
-        taken: Vec::new(),
-    };
-    for worked in by_hand::all() {
-        sample.take(worked.case);
+    let mut sample = Sample(Sampled::new(Case::line));
+    for Worked { case, .. } in by_hand::all() {
+        let answer = ask(&case);
+        sample.0.take(case, answer);
     }
     let kinds = KINDS.into_iter();
     for kind in kinds.filter(|kind| !matches!(kind, Kind::Decimal | Kind::Unimplemented)) {
@@ -50,7 +50,7 @@ fn sample() -> Vec<(Case, Answer)> {
     sample.add_built_in();
     sample.add_lengths();
     sample.add_broken();
-    sample.taken
+    sample.0.taken
 }
 
 /// The model's answer. The stand-ins and the Rust may not part from it but for what is known.
@@ -58,27 +58,14 @@ fn ask(case: &Case) -> Answer {
     let asked = Asked::new(&case.words);
     let answers = Answers::new(case, &asked, None);
     for pair in [Pair::ModelStandin, Pair::ModelRust] {
-        assert_ne!(pair.differs(&answers), Some(true), "{}", case.line());
+        assert_ne!(answers.differs(pair), Some(true), "{}", case.line());
     }
     answers.model
 }
 
-struct Sample {
-    random: Random,
-    known: HashSet<String>,
-    taken: Vec<(Case, Answer)>,
-}
+struct Sample(Sampled<Case, Answer>);
 
 impl Sample {
-    fn take(&mut self, case: Case) -> bool {
-        let is_new = self.known.insert(case.line());
-        if is_new {
-            let answer = ask(&case);
-            self.taken.push((case, answer));
-        }
-        is_new
-    }
-
     /// So many new cases that fit.
     fn draw(
         &mut self,
@@ -86,14 +73,11 @@ impl Sample {
         make: impl Fn(&mut Random) -> (Table, Case),
         fits: impl Fn(&Table, &Answer) -> bool,
     ) {
-        let mut left = share;
-        while left > 0 {
-            let (table, case) = make(&mut self.random);
-            if !fits(&table, &ask(&case)) {
-                continue;
-            }
-            left -= usize::from(self.take(case));
-        }
+        self.0.draw(share, |random| {
+            let (table, case) = make(random);
+            let answer = ask(&case);
+            fits(&table, &answer).then_some((case, answer))
+        });
     }
 
     /// Good ones, those that end before or in the field, and damaged ones.
@@ -231,12 +215,7 @@ impl Sample {
 
 /// A case with the usual run and ample room.
 fn usual(table: Table, payload: Vec<u8>) -> (Table, Case) {
-    let case = Case {
-        room: AMPLE,
-        padding: PADDING,
-        words: pack(&table),
-        payload,
-    };
+    let case = Case::usual(pack(&table), payload);
     (table, case)
 }
 

@@ -1,67 +1,12 @@
 //! The same case asked of the four sides: the program under test, the model, the oracle with stand-ins,
 //! and the Rust unchanged.
 use super::answer::{self, Answer};
+use super::asked::Asked;
 use super::case::Case;
-use super::differences::{Excused, same_but};
-use super::oracles::{rust, standin};
+use super::differences::{Excused, Reason, parting, same_but};
 use super::told::{Told, told};
-use model::tables::{self, Field, PAYLOAD_MAX, SETS_MAX, Table};
-
-/// A refused table is asked of the Rust only if it is as small as this, as each that is asked stays in
-/// memory.
-const SMALL: usize = 8;
-
-/// The oracles made ready for a table.
-pub struct Asked {
-    pub table: Table,
-    pub is_accepted: bool,
-    standin: Option<standin::Asked>,
-    rust: Option<rust::Asked>,
-}
-
-impl Asked {
-    pub fn new(words: &[u64]) -> Asked {
-        let table = tables::read(words);
-        let is_accepted = tables::check(&table).is_ok();
-        let is_small = table.fields.len() <= SMALL && table.sets.len() <= SETS_MAX;
-        let has_standin = is_accepted && marks_are_told_apart(&table);
-        Asked {
-            is_accepted,
-            standin: has_standin.then(|| standin::Asked::new(&table)),
-            rust: (is_accepted || is_small).then(|| rust::Asked::new(&table)),
-            table,
-        }
-    }
-
-    /// The Rust's answer. What it makes of a long payload is asked of accepted tables only: others could
-    /// lead it past its own buffers.
-    fn rust(&self, case: &Case) -> Option<Told> {
-        let speaks = self.is_accepted || case.payload.len() <= PAYLOAD_MAX;
-        let rust = self.rust.as_ref().filter(|_| speaks)?;
-        Some(rust.read(&case.payload, case.room))
-    }
-
-    /// The answer of the oracle with stand-ins.
-    fn standin(&self, case: &Case) -> Option<Told> {
-        let standin = self.standin.as_ref()?;
-        Some(standin.read(&case.payload, case.room))
-    }
-}
-
-/// The second oracle knows a mark by the width, the sign and the resolution of its field: fields that
-/// share these have to share the mark.
-fn marks_are_told_apart(table: &Table) -> bool {
-    let scaled = |field: &Field| {
-        let scale = field.scale?;
-        Some((
-            (field.width, field.signed, scale.resolution.to_bits()),
-            scale.mark,
-        ))
-    };
-    let marks: Vec<_> = table.fields.iter().filter_map(scaled).collect();
-    let mut pairs = (marks.iter()).flat_map(|one| marks.iter().map(move |other| (one, other)));
-    pairs.all(|(one, other)| one.0 != other.0 || one.1 == other.1)
-}
+use crate::pair::Pair;
+use crate::payload::held::{Answered, Held};
 
 /// What the sides answer to a case.
 pub struct Answers<'a> {
@@ -169,66 +114,87 @@ impl Ours<'_> {
     }
 }
 
-/// One side, and the one that it is held against.
-#[derive(Clone, Copy, Debug, PartialEq, Eq)]
-pub enum Pair {
-    OursModel,
-    OursStandin,
-    OursRust,
-    ModelStandin,
-    ModelRust,
-}
-
-impl Pair {
-    pub const ALL: [Pair; 5] = [
-        Pair::OursModel,
-        Pair::OursStandin,
-        Pair::OursRust,
-        Pair::ModelStandin,
-        Pair::ModelRust,
-    ];
-
-    pub fn name(self) -> &'static str {
-        match self {
-            Pair::OursModel => "readings against the model",
-            Pair::OursStandin => "readings against the stand-ins",
-            Pair::OursRust => "readings against the Rust",
-            Pair::ModelStandin => "the model's readings against the stand-ins",
-            Pair::ModelRust => "the model's readings against the Rust",
-        }
+impl Answered<Case> for Answers<'_> {
+    fn case(&self) -> &Case {
+        self.case
     }
 
-    pub fn is_ours(self) -> bool {
-        matches!(self, Pair::OursModel | Pair::OursStandin | Pair::OursRust)
+    fn number(&self) -> u32 {
+        self.model.number()
     }
 
-    /// Whether the two differ, if both speak.
-    pub fn differs(self, answers: &Answers) -> Option<bool> {
-        let ours = answers.ours.as_ref();
-        match self {
+    fn differs(&self, pair: Pair) -> Option<bool> {
+        let ours = self.ours.as_ref();
+        match pair {
             Pair::OursModel => Some(!ours?.is_the_models),
-            Pair::OursStandin => ours?.differs(answers.model_standin, |answer| {
-                answers.differs_from_standin(answer)
+            Pair::OursStandin => ours?.differs(self.model_standin, |answer| {
+                self.differs_from_standin(answer)
             }),
-            Pair::OursRust => ours?.differs(answers.model_rust, |answer| {
-                answers.differs_from_rust(answer)
-            }),
-            Pair::ModelStandin => answers.model_standin,
-            Pair::ModelRust => answers.model_rust,
+            Pair::OursRust => {
+                ours?.differs(self.model_rust, |answer| self.differs_from_rust(answer))
+            }
+            Pair::ModelStandin => self.model_standin,
+            Pair::ModelRust => self.model_rust,
         }
     }
 
-    /// Both answers as they are printed, the side's first.
-    pub fn texts(self, answers: &Answers) -> [String; 2] {
-        let side = match &answers.ours {
-            Some(ours) if self.is_ours() => ours.given.text(),
-            _ => answers.model.text(),
+    fn texts(&self, pair: Pair) -> [String; 2] {
+        let side = match &self.ours {
+            Some(ours) if pair.is_ours() => ours.given.text(),
+            _ => self.model.text(),
         };
-        let against = match self {
-            Pair::OursModel => Some(answers.model.text()),
-            Pair::OursStandin | Pair::ModelStandin => answers.standin.as_ref().map(Told::text),
-            Pair::OursRust | Pair::ModelRust => answers.rust.as_ref().map(Told::text),
+        let against = match pair {
+            Pair::OursModel => Some(self.model.text()),
+            Pair::OursStandin | Pair::ModelStandin => self.standin.as_ref().map(Told::text),
+            Pair::OursRust | Pair::ModelRust => self.rust.as_ref().map(Told::text),
         };
         [side, against.unwrap_or_default()]
+    }
+
+    fn excused(&self) -> Vec<Reason> {
+        self.excused.reasons()
+    }
+
+    fn parting(&self) -> Vec<Reason> {
+        let Some(rust) = &self.rust else {
+            return Vec::new();
+        };
+        parting(&self.excused, &told(&self.model, self.case, false), rust)
+    }
+}
+
+impl Held for Case {
+    type Ours = dyn Given;
+    type Reason = Reason;
+    const NAME: &'static str = "readings";
+
+    fn words(&self) -> &[u64] {
+        &self.words
+    }
+
+    fn line(&self) -> String {
+        self.line()
+    }
+
+    fn last(&self) -> &[u8] {
+        &self.payload
+    }
+
+    /// The oracles have neither 7 nor 8.
+    fn has_outcome(pair: Pair, number: u32) -> bool {
+        pair == Pair::OursModel || !matches!(number, 7 | 8)
+    }
+
+    fn asked<T>(
+        &self,
+        ours: Option<&Self::Ours>,
+        then: impl FnOnce(&dyn Answered<Case>) -> T,
+    ) -> T {
+        let asked = Asked::new(&self.words);
+        then(&Answers::new(
+            self,
+            &asked,
+            ours.map(|ours| ours as &dyn Given),
+        ))
     }
 }

@@ -3,6 +3,7 @@
 //! oracle with stand-ins all but the places can be asked.
 use super::answer::Answer;
 use super::case::Case;
+use super::refusal;
 use crate::case::hex;
 use model::numbers::Value;
 use model::reading::{Content, Fault, Reading};
@@ -99,21 +100,12 @@ fn seen_content(content: Content, working: &[u8]) -> (Option<u64>, What) {
 }
 
 fn refused(fault: Fault, whole: bool) -> Refused {
-    let (field, carried) = match fault {
-        Fault::Bits { field, refusal } => (Some(field), refusal.carried()),
-        Fault::Cut { field } => (Some(field), vec![]),
-        Fault::Elements {
-            set,
-            count,
-            maximum,
-        } => (None, vec![set as u64, count, maximum as u64]),
-        Fault::Length(length) => (None, vec![length as u64]),
-        Fault::Table((letter, index)) => (None, vec![letter.into(), index as u64]),
-        Fault::NoRoom { field } => (None, vec![field as u64]),
-    };
+    let number = fault.number();
+    let mut carried = refusal::listed(fault);
+    let field = (1..=4).contains(&number).then(|| carried.remove(0));
     Refused {
-        number: fault.number(),
-        field: field.filter(|_| whole),
+        number,
+        field: field.filter(|_| whole).map(|field| field as usize),
         carried,
     }
 }

@@ -1,16 +1,11 @@
 //! Worked out by hand: the cases of reading that document 01 gives.
-use super::by_hand::{Worked, reads};
+use super::worked::{Worked, one, reads};
 use crate::tables::built_in::{bare, field, number, set, sized, table, table_129026};
 use model::numbers::Kind;
-use model::tables::Field;
 
 pub fn all() -> Vec<Worked> {
     let rules = [frame(), counts(), texts(), filling()];
     rules.into_iter().flatten().collect()
-}
-
-fn one(field: Field, payload: &str, wanted: &[&str]) -> Worked {
-    reads(table(&[field], &[]), payload, wanted)
 }
 
 /// The printing program's. 15,708 times 0.0001 and 39,104 times 0.01, each rounded once to an f32.

@@ -1,5 +1,5 @@
 //! Worked out by hand: repeating sets and their counts.
-use super::by_hand::{Worked, reads};
+use super::worked::{Worked, reads};
 use crate::tables::built_in::{bare, field, number, set, signed, sized, table};
 use model::numbers::Kind;
 use model::tables::Table;

@@ -1,6 +1,6 @@
 //! Worked out by hand: texts and bytes.
-use super::by_hand::{Worked, reads};
-use crate::tables::built_in::{bare, field, number, set, table};
+use super::worked::{Worked, reads};
+use crate::tables::built_in::{LAU, LZ, bare, field, number, set, table};
 use model::numbers::Kind;
 use model::tables::Field;
 
@@ -16,9 +16,6 @@ pub fn all() -> Vec<Worked> {
     ];
     rules.into_iter().flatten().collect()
 }
-
-const LZ: Kind = Kind::StringLz;
-const LAU: Kind = Kind::StringLau;
 
 fn of(fields: &[Field], payload: &str, wanted: &[&str]) -> Worked {
     reads(table(fields, &[]), payload, wanted)

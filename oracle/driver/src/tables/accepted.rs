@@ -1,4 +1,6 @@
 //! Random tables that the rules accept.
+use super::built_in::{bare, field};
+use crate::numbers::cases::any_resolution;
 use crate::random::Random;
 use model::numbers::{Kind, Mark, RESOLUTION_MAX, RESOLUTION_MIN, Scale};
 use model::tables::{self, BYTES_WIDTH_MAX, COUNTER_WIDTH_MAX, ELEMENTS_MAX, Field, Set, Table};
@@ -43,7 +45,7 @@ pub fn any_table(random: &mut Random) -> Table {
     }
     let set_is_last = (table.sets.last()).is_some_and(|set| set.start + set.size == count);
     if !set_is_last && random.up_to(7) == 0 {
-        table.fields[count - 1] = without_width(Kind::StringLz);
+        table.fields[count - 1] = bare(Kind::StringLz);
     }
     table
 }
@@ -105,7 +107,7 @@ fn any_ranges(count: usize, random: &mut Random) -> Vec<Range<usize>> {
 /// A field that may stand anywhere: all but StringLz.
 fn any_placed_field(random: &mut Random) -> Field {
     match random.up_to(WIDE.len()) {
-        0 => without_width(Kind::StringLau),
+        0 => bare(Kind::StringLau),
         _ => any_wide_field(random),
     }
 }
@@ -113,31 +115,22 @@ fn any_placed_field(random: &mut Random) -> Field {
 /// A field that keeps the rules b to e, of any kind.
 pub fn any_field(random: &mut Random) -> Field {
     match random.up_to(WIDE.len() + 1) {
-        0 => without_width(Kind::StringLau),
-        1 => without_width(Kind::StringLz),
+        0 => bare(Kind::StringLau),
+        1 => bare(Kind::StringLz),
         _ => any_wide_field(random),
     }
 }
 
-fn without_width(kind: Kind) -> Field {
-    Field {
-        kind,
-        width: None,
-        signed: false,
-        scale: None,
-    }
-}
-
 fn any_counter(random: &mut Random) -> Field {
-    Field {
-        kind: random.among(&[Kind::Number, Kind::Lookup]),
-        width: Some(1 + random.up_to(COUNTER_WIDTH_MAX as usize - 1) as u32),
-        ..without_width(Kind::Number)
-    }
+    let kind = random.among(&[Kind::Number, Kind::Lookup]);
+    field(
+        kind,
+        1 + random.up_to(COUNTER_WIDTH_MAX as usize - 1) as u32,
+    )
 }
 
 fn any_wide_field(random: &mut Random) -> Field {
-    let mut field = without_width(random.among(&WIDE));
+    let mut field = bare(random.among(&WIDE));
     if tables::takes_resolution(field.kind) && random.up_to(1) == 0 {
         field.scale = Some(any_scale(random));
     }
@@ -147,11 +140,10 @@ fn any_wide_field(random: &mut Random) -> Field {
 }
 
 fn any_scale(random: &mut Random) -> Scale {
-    let (low, high) = (RESOLUTION_MIN.to_bits(), RESOLUTION_MAX.to_bits());
-    let any = low + random.up_to((high - low) as usize) as u32;
+    let any = any_resolution(random);
     Scale {
         mark: random.among(&[Mark::Single, Mark::Double]),
-        resolution: f32::from_bits(random.among(&[any, any, any, low, high])),
+        resolution: random.among(&[any, any, any, RESOLUTION_MIN, RESOLUTION_MAX]),
     }
 }
 

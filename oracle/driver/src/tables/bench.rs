@@ -2,12 +2,11 @@
 use super::built_in::{table_129026, table_129029};
 use super::words::pack;
 use crate::samopute;
+use crate::timing::{self, ROUNDS, timed};
 use model::tables::{self, Table};
 use std::hint::black_box;
-use std::time::Instant;
 
 const CHECKS: usize = 200_000;
-const ROUNDS: usize = 15;
 
 pub fn run() {
     println!("ns a check, the least of {ROUNDS} rounds of {CHECKS} checks");
@@ -28,22 +27,15 @@ pub fn run() {
     }
 }
 
-/// The least time of each work, in ns a check. The works take turns, so that a slow spell of the
-/// machine hits all; the first turn only warms up. Each has to accept.
+/// The least time of each work, in ns a check. Each has to accept.
 fn fastest(works: [&dyn Fn() -> bool; 3]) -> [f64; 3] {
-    let mut least = [f64::INFINITY; 3];
-    for round in 0..=ROUNDS {
-        for (work, least) in works.iter().zip(&mut least) {
-            let start = Instant::now();
-            let accepted = (0..CHECKS).filter(|_| black_box(work())).count();
-            let time = start.elapsed().as_nanos() as f64 / CHECKS as f64;
+    timing::fastest(|| {
+        works.map(|work| {
+            let (time, accepted) = timed(|| (0..CHECKS).filter(|_| black_box(work())).count());
             assert!(accepted == CHECKS, "a built-in table is refused");
-            if round > 0 {
-                *least = least.min(time);
-            }
-        }
-    }
-    least
+            time / CHECKS as f64
+        })
+    })
 }
 
 #[inline(never)]

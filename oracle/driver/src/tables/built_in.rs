@@ -2,6 +2,12 @@
 use model::numbers::{Kind, Mark, Scale};
 use model::tables::{Field, Set, Table};
 
+/// Texts and bytes by short names.
+pub const FIX: Kind = Kind::StringFix;
+pub const LZ: Kind = Kind::StringLz;
+pub const LAU: Kind = Kind::StringLau;
+pub const BINARY: Kind = Kind::Binary;
+
 pub fn field(kind: Kind, width: u32) -> Field {
     Field {
         width: Some(width),
@@ -75,6 +81,19 @@ pub fn sized(length: usize, minimum: usize, fields: &[Field]) -> Table {
         minimum: given(minimum),
         ..table(fields, &[])
     }
+}
+
+/// The PGNs that are built in.
+pub const PGNS: [u32; 4] = [129_025, 129_026, 129_029, 130_900];
+
+/// The built-in tables with their PGNs.
+pub fn by_pgn() -> impl Iterator<Item = (u32, Table)> {
+    PGNS.into_iter().zip(all())
+}
+
+/// Whether the table is the one that is built in for the PGN.
+pub fn is_table_of(pgn: u32, table: &Table) -> bool {
+    by_pgn().any(|(known, of)| known == pgn && of == *table)
 }
 
 /// The built-in tables.

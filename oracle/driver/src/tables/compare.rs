@@ -1,13 +1,15 @@
 //! The comparison on tables. Each test is the library against the model over one set of cases.
 use super::accepted::{Coverage, any_table};
+use super::answer::{ALL, Answer, hex, letter, outcome_of};
 use super::damaged::{any_words, damage};
 use super::smallest::shrink;
 use super::words::{fill_unused, pack};
 use super::{by_hand, exhaustive};
 use crate::cases::SEED;
+use crate::pair::Pair;
 use crate::random::Random;
 use crate::report::Report;
-use crate::samopute;
+use crate::tally::Tally;
 use model::tables;
 
 struct Amount {
@@ -105,122 +107,51 @@ fn small(amount: &Amount, report: &mut Report) {
     test.report(report);
 }
 
-/// The outcomes: accepted, then the letters, by the number that the interface has for them.
-const ALL: &str = "-abcdefgh";
-
-/// An answer as the C interface gives it.
-#[derive(Clone, Copy, PartialEq, Eq)]
-pub struct Answer {
-    number: u32,
-    values: [u64; 3],
-}
-
-impl Answer {
-    pub fn ours(words: &[u64]) -> Answer {
-        // No call answers all ones, so that a value that is not filled in shows.
-        let mut values = [u64::MAX; 3];
-        let number = samopute::check(words, &mut values);
-        Answer { number, values }
-    }
-
-    pub fn model(words: &[u64]) -> Answer {
-        Answer::of(tables::check(&tables::read(words)))
-    }
-
-    pub fn of(outcome: Result<(), tables::Broken>) -> Answer {
-        match outcome {
-            Ok(()) => Answer {
-                number: 0,
-                values: [0; 3],
-            },
-            Err((letter, index)) => Answer {
-                number: 8,
-                values: [outcome_of(letter) as u64, index as u64, 0],
-            },
-        }
-    }
-
-    pub fn text(self) -> String {
-        let [rule, index, rest] = self.values;
-        let letter = ALL.chars().nth(rule as usize);
-        match (self.number, letter, rest) {
-            (0, Some('-'), 0) if index == 0 => "accepted".to_string(),
-            (8, Some(letter @ 'a'..='h'), 0) => format!("8, {letter}, {index}"),
-            (number, ..) => format!("number {number}, values {rule} {index} {rest}"),
-        }
-    }
-}
-
-/// The place of a letter in `ALL`.
-fn outcome_of(letter: char) -> usize {
-    ALL.chars().position(|one| one == letter).unwrap()
-}
-
 /// The differing cases that a failure prints.
 const SHOWN: usize = 3;
 
-struct Test {
-    name: String,
-    /// The outcomes that have to be met, or the test shows nothing.
-    wanted: &'static str,
-    met: [usize; ALL.len()],
-    differing: usize,
-    /// The smallest differing cases, smallest first.
-    smallest: Vec<Vec<u64>>,
-}
+/// Keeps the smallest differing cases, smallest first.
+struct Test(Tally<Vec<Vec<u64>>>);
 
 impl Test {
-    fn new(set: &str, wanted: &'static str) -> Test {
-        Test {
-            name: format!("check against the model, {set}"),
-            wanted,
-            met: [0; ALL.len()],
-            differing: 0,
-            smallest: Vec::new(),
-        }
+    fn new(set: &str, wanted: &str) -> Test {
+        let name = format!("{}, {set}", Pair::OursModel.name("check"));
+        let wanted = wanted.chars().map(outcome_of).collect();
+        Test(Tally::new(name, wanted, |outcome| {
+            letter(outcome as u64).unwrap_or('?').to_string()
+        }))
     }
 
     fn compare(&mut self, words: &[u64]) {
         let (ours, model) = (Answer::ours(words), Answer::model(words));
-        self.met[model.values[0] as usize] += 1;
+        self.0.meet(model.rule());
         if ours != model {
-            self.differing += 1;
-            self.keep(words);
+            self.0.differing.count += 1;
+            keep(self.0.differing.smallest.get_or_insert_default(), words);
         }
-    }
-
-    fn keep(&mut self, words: &[u64]) {
-        let size = |words: &[u64]| (words.len(), words.to_vec());
-        let place = (self.smallest).partition_point(|known| size(known) < size(words));
-        let is_known = self.smallest.get(place).is_some_and(|known| known == words);
-        if place < SHOWN && !is_known {
-            self.smallest.insert(place, words.to_vec());
-            self.smallest.truncate(SHOWN);
-        }
-    }
-
-    fn outcome(&self) -> Result<String, String> {
-        let cases: usize = self.met.iter().sum();
-        if let Some(first) = self.smallest.first() {
-            let differs = |words: &[u64]| Answer::ours(words) != Answer::model(words);
-            let mut text = format!("{} of {cases} cases differ, such as", self.differing);
-            text += &shown(&shrink(first, &differs));
-            text += "\n  made smaller from";
-            text.extend(self.smallest.iter().map(|words| shown(words)));
-            return Err(text);
-        }
-        if let Some(letter) = (self.wanted.chars()).find(|&one| self.met[outcome_of(one)] == 0) {
-            return Err(format!("no case with outcome {letter}"));
-        }
-        let outcomes: Vec<String> = (self.wanted.chars())
-            .map(|letter| format!("{letter}: {}", self.met[outcome_of(letter)]))
-            .collect();
-        Ok(format!("{cases} cases ({})", outcomes.join(", ")))
     }
 
     fn report(self, report: &mut Report) {
-        report.line(&self.name, self.outcome());
+        report.line(&self.0.name, self.0.outcome(|smallest| all_shown(smallest)));
     }
+}
+
+fn keep(smallest: &mut Vec<Vec<u64>>, words: &[u64]) {
+    let size = |words: &[u64]| (words.len(), words.to_vec());
+    let place = smallest.partition_point(|known| size(known) < size(words));
+    let is_known = smallest.get(place).is_some_and(|known| known == words);
+    if place < SHOWN && !is_known {
+        smallest.insert(place, words.to_vec());
+        smallest.truncate(SHOWN);
+    }
+}
+
+fn all_shown(smallest: &[Vec<u64>]) -> String {
+    let differs = |words: &[u64]| Answer::ours(words) != Answer::model(words);
+    let mut text = shown(&shrink(&smallest[0], &differs));
+    text += "\n  made smaller from";
+    text.extend(smallest.iter().map(|words| shown(words)));
+    text
 }
 
 /// The words in hexadecimal, and both answers.
@@ -231,12 +162,4 @@ fn shown(words: &[u64]) -> String {
         Answer::ours(words).text(),
         Answer::model(words).text()
     )
-}
-
-pub fn hex(words: &[u64]) -> String {
-    let words: Vec<String> = words.iter().map(|word| format!("{word:X}")).collect();
-    match words.len() {
-        0 => "no words".to_string(),
-        _ => words.join(" "),
-    }
 }

@@ -111,3 +111,12 @@ pub fn fill_unused(words: &mut Vec<u64>, random: &mut Random) {
         words.extend((0..random.up_to(3)).map(|_| random.next()));
     }
 }
+
+/// The words of a table, at times with what says nothing filled in.
+pub fn any_words(table: &Table, random: &mut Random) -> Vec<u64> {
+    let mut words = pack(table);
+    if random.up_to(7) == 0 {
+        fill_unused(&mut words, random);
+    }
+    words
+}

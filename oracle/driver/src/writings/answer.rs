@@ -34,6 +34,17 @@ pub fn model(table: &Table, case: &Case) -> (Answer, Encoded) {
     (Answer { outcome, buffer }, encoded)
 }
 
+impl Outcome {
+    /// `ok USED` or `F NUMBER CARRIED...`.
+    pub fn text(&self) -> String {
+        match self {
+            Outcome::Used(used) => format!("ok {used}"),
+            Outcome::Refused(fault) => format!("F {}", fault_text(*fault)),
+            Outcome::Other(error) => error.clone(),
+        }
+    }
+}
+
 impl Answer {
     /// 0, or the number of the refusal.
     pub fn number(&self) -> u32 {
@@ -43,14 +54,9 @@ impl Answer {
         }
     }
 
-    /// `ok USED | BUFFER` or `F NUMBER CARRIED... | BUFFER`.
+    /// The outcome, ` | ` and the buffer.
     pub fn text(&self) -> String {
-        let outcome = match &self.outcome {
-            Outcome::Used(used) => format!("ok {used}"),
-            Outcome::Refused(fault) => format!("F {}", fault_text(*fault)),
-            Outcome::Other(error) => error.clone(),
-        };
-        format!("{outcome} | {}", short(&self.buffer))
+        format!("{} | {}", self.outcome.text(), short(&self.buffer))
     }
 }
 
@@ -70,7 +76,7 @@ fn short(buffer: &[u8]) -> String {
 }
 
 /// `NUMBER CARRIED...`; a field of 1 to 3 comes first, and a rule is its letter.
-pub fn fault_text(fault: Fault) -> String {
+fn fault_text(fault: Fault) -> String {
     if let Fault::Table((letter, index)) = fault {
         return format!("8 {letter} {index}");
     }

@@ -1,31 +1,19 @@
 //! Values whose answers were worked out by hand from document 01: each refusal, then each rule of "Writing a
 //! payload", then records written out.
 use super::answer::{self, Answer, Outcome};
+use super::asked::Asked;
 use super::case::Case;
-use super::records::records;
-use super::sides::{Answers, Asked};
+use super::sides::Answers;
+use super::worked::Worked;
 use super::{worked_records, worked_refusals, worked_walks};
 use crate::case::hex;
+use crate::payload::held::differing;
 use crate::report::Report;
 use crate::samopute;
-use crate::tables::words::pack;
-use model::numbers::{Value, ValueKind};
-use model::tables::{Field, Table};
-use model::writing::Given;
-
-pub use crate::readings::by_hand::bytes;
 
 /// What a buffer holds before a call, and bytes around it that are not lent.
 const BEFORE: u8 = 0xA5;
 const AROUND: usize = 16;
-
-pub struct Worked {
-    pub case: Case,
-    /// `ok USED` or `F NUMBER CARRIED...`.
-    pub outcome: &'static str,
-    /// The buffer after.
-    pub buffer: Vec<u8>,
-}
 
 pub fn run(report: &mut Report) {
     let all = all();
@@ -46,99 +34,17 @@ fn all() -> Vec<Worked> {
     all.into_iter().flatten().collect()
 }
 
-/// Values of a table into a buffer of so many bytes, without a lent text.
-pub fn writes(
-    size: usize,
-    table: Table,
-    values: &[Given],
-    outcome: &'static str,
-    buffer: &str,
-) -> Worked {
-    lends(size, table, values, "", outcome, buffer)
-}
-
-/// The same with a lent text.
-pub fn lends(
-    size: usize,
-    table: Table,
-    values: &[Given],
-    text: &str,
-    outcome: &'static str,
-    buffer: &str,
-) -> Worked {
-    Worked {
-        case: Case {
-            size,
-            words: pack(&table),
-            values: records(values),
-            text: bytes(text),
-        },
-        outcome,
-        buffer: bytes(buffer),
-    }
-}
-
-/// A table without sets.
-pub fn of(fields: &[Field]) -> Table {
-    crate::tables::built_in::table(fields, &[])
-}
-
-pub fn whole(kind: ValueKind, number: i128) -> Given {
-    Given::Number(Value::whole(kind, number))
-}
-
-pub fn byte(number: u8) -> Given {
-    whole(ValueKind::U8, number.into())
-}
-
-pub fn single(number: f32) -> Given {
-    Given::Number(Value::single(number))
-}
-
-pub fn double(number: f64) -> Given {
-    Given::Number(Value::double(number))
-}
-
-/// A text or bytes.
-pub fn text(place: u64, length: u64) -> Given {
-    Given::Bytes {
-        place,
-        length,
-        encoding: None,
-    }
-}
-
-/// A text with an encoding byte.
-pub fn encoded(encoding: u8, place: u64, length: u64) -> Given {
-    Given::Bytes {
-        place,
-        length,
-        encoding: Some(encoding),
-    }
-}
-
 /// Holds what a side answers against what was worked out. It answers nothing where it does not speak.
 fn held(all: &[Worked], side: fn(&Case) -> Option<Answer>) -> Result<String, String> {
     let mut count = 0;
-    for Worked {
-        case,
-        outcome,
-        buffer,
-    } in all
-    {
-        let Some(given) = side(case) else { continue };
-        let told = match &given.outcome {
-            Outcome::Used(used) => format!("ok {used}"),
-            Outcome::Refused(fault) => format!("F {}", answer::fault_text(*fault)),
-            Outcome::Other(error) => error.clone(),
+    for one in all {
+        let Some(Answer { outcome, buffer }) = side(&one.case) else {
+            continue;
         };
-        if told != *outcome || given.buffer != *buffer {
-            return Err(format!(
-                "\n  {}\n    {told} | {}\n  where this is wanted\n    {outcome} | {}",
-                case.line(),
-                hex(&given.buffer),
-                hex(buffer)
-            ));
+        let given = format!("{} | {}", outcome.text(), hex(&buffer));
+        let wanted = format!("{} | {}", one.outcome, hex(&one.buffer));
+        if given != wanted {
+            return Err(differing(&one.case.line(), [&given, &wanted]));
         }
         count += 1;
     }

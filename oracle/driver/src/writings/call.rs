@@ -3,32 +3,14 @@ use super::answer::{self, Answer, Outcome};
 use super::case::Case;
 use super::lent::Buffers;
 use crate::case::hex;
-use crate::samopute::{self, Encoded};
+use crate::payload::call::{BEFORE, Call, Left, lent};
+use crate::samopute;
 use model::writing::Fault;
 use std::fmt::Write;
 use std::hint::black_box;
 
-/// What the numbers of an answer are before a call, and those beside them.
-const BEFORE: u64 = 0xA5A5_A5A5_A5A5_A5A5;
-
-/// How the table is given.
-#[derive(Clone, Copy, Debug)]
-pub enum Call {
-    Words,
-    Pgn(u32),
-}
-
-/// What a call leaves.
-#[derive(Clone, Debug, PartialEq, Eq)]
-pub struct Taken {
-    status: u32,
-    /// The four numbers, with one that is not lent on each side.
-    answer: [u64; 6],
-    after: Buffers,
-    before: Buffers,
-    /// Whether the words, the values and the text are as they were.
-    is_input_kept: bool,
-}
+/// The four numbers of the answer are lent.
+pub type Taken = Left<Buffers, 6>;
 
 impl Taken {
     pub fn new(case: &Case, call: Call) -> Taken {
@@ -37,7 +19,7 @@ impl Taken {
         let words = case.words.clone();
         let mut answer = [BEFORE; 6];
         let (values, text) = (before.values.bytes(), before.text.bytes());
-        let (payload, lent) = (after.payload.bytes_mut(), four(&mut answer));
+        let (payload, lent) = (after.payload.bytes_mut(), lent(&mut answer));
         let status = match call {
             Call::Words => samopute::encode(&words, values, text, payload, lent),
             Call::Pgn(pgn) => samopute::encode_pgn(pgn, values, text, payload, lent),
@@ -58,18 +40,6 @@ impl Taken {
         let mut numbers = [0; 4];
         numbers[1..=carried.len()].copy_from_slice(carried);
         self.wanted(status, numbers)
-    }
-
-    fn wanted(&self, status: u32, numbers: Encoded) -> Taken {
-        let mut answer = [BEFORE; 6];
-        *four(&mut answer) = numbers;
-        Taken {
-            status,
-            answer,
-            after: self.before.clone(),
-            before: self.before.clone(),
-            is_input_kept: true,
-        }
     }
 
     /// What a call leaves that gives this answer, which is not one of the Rust's own.
@@ -115,7 +85,7 @@ impl Taken {
         if let Some(at) = self.after.payload.changed_around(&self.before.payload) {
             write!(text, "\nwritten outside: payload, byte {at}").unwrap();
         }
-        if [self.answer[0], self.answer[5]] != [BEFORE; 2] {
+        if self.is_answer_strayed() {
             write!(text, "\nwritten outside: answer").unwrap();
         }
         if !self.is_input_kept {
@@ -138,9 +108,4 @@ fn is_untouched(outcome: &Outcome) -> bool {
         outcome,
         Outcome::Refused(Fault::Length(_) | Fault::Table(_))
     )
-}
-
-/// The four numbers that are lent.
-fn four(all: &mut [u64; 6]) -> &mut Encoded {
-    (&mut all[1..5]).try_into().expect("four numbers")
 }

@@ -2,14 +2,11 @@
 use super::kinds::is_bytes;
 use super::records::{self, RECORD};
 use super::sides::Answers;
+use crate::payload::shapes::{Met, Shape, shapes};
 use model::Refusal;
 use model::numbers::{self, Kind};
 use model::tables::{Field, PAYLOAD_MAX, Table};
 use model::writing::{Content, Encoded, Fault, Given, TEXT_MAX, Written};
-use std::collections::BTreeMap;
-
-/// What is met at a kind of field, and what has no kind.
-type Shape = (Option<Kind>, &'static str);
 
 const NUMBERS: [&str; 5] = ["written", "F 2", "F 10", "F 11", "F 12"];
 const SKIPPED: [&str; 2] = ["written", "F 2"];
@@ -99,8 +96,9 @@ const OTHERS: [&str; 20] = [
 
 #[derive(Default)]
 pub struct Coverage {
-    met: BTreeMap<Shape, usize>,
-    sizes: BTreeMap<(bool, usize), usize>,
+    met: Met<Shape>,
+    /// What became of buffers of so many bytes.
+    sizes: Met<(&'static str, usize)>,
 }
 
 impl Coverage {
@@ -111,7 +109,7 @@ impl Coverage {
         }
         match encoded.outcome {
             Ok(()) => {
-                *self.sizes.entry((true, answers.case.size)).or_default() += 1;
+                self.sizes.add(("written", answers.case.size));
                 if answers.case.values.is_empty() {
                     self.met(None, "no value and a skipped field");
                 }
@@ -122,7 +120,7 @@ impl Coverage {
     }
 
     fn met(&mut self, kind: Option<Kind>, what: &'static str) {
-        *self.met.entry((kind, what)).or_default() += 1;
+        self.met.add((kind, what));
     }
 
     fn add_written(&mut self, field: &Field, written: &Written) {
@@ -152,7 +150,7 @@ impl Coverage {
         let (field, what) = match fault {
             Fault::Bits { field, refusal } => match refusal {
                 Refusal::BeyondBits { .. } => {
-                    *self.sizes.entry((false, answers.case.size)).or_default() += 1;
+                    self.sizes.add(("too small", answers.case.size));
                     (field, "F 2")
                 }
                 _ => (field, "F 3"),
@@ -243,37 +241,17 @@ impl Coverage {
 
     /// How many shapes were met, or those that were not.
     pub fn outcome(&self) -> Result<String, String> {
-        let of_kinds = (OF_KINDS.iter())
-            .flat_map(|(kind, shapes)| shapes.iter().map(|&what| (Some(*kind), what)));
-        let wanted: Vec<Shape> = of_kinds.chain(OTHERS.map(|what| (None, what))).collect();
-        let missed: Vec<&Shape> = (wanted.iter())
-            .filter(|shape| !self.met.contains_key(*shape))
-            .collect();
-        if !missed.is_empty() {
-            return Err(format!("not met: {missed:?}"));
-        }
-        let least = wanted.iter().map(|shape| self.met[shape]).min();
-        Ok(format!(
-            "{} shapes, each {} times or more",
-            wanted.len(),
-            least.unwrap_or(0)
-        ))
+        self.met.outcome(&shapes(&OF_KINDS, &OTHERS), "shapes")
     }
 
     /// Whether buffers of every size were written, but for one of no bytes, and found too small.
     pub fn sizes(&self) -> Result<String, String> {
-        let accepted = (1..=PAYLOAD_MAX).map(|size| (true, size));
-        let cut = (0..PAYLOAD_MAX).map(|size| (false, size));
-        let wanted: Vec<(bool, usize)> = accepted.chain(cut).collect();
-        let missed = wanted.iter().find(|size| !self.sizes.contains_key(size));
-        if let Some((accepted, size)) = missed {
-            let what = if *accepted { "written" } else { "too small" };
-            return Err(format!("no buffer of {size} bytes that is {what}"));
-        }
-        let least = wanted.iter().map(|size| self.sizes[size]).min();
+        let accepted = (1..=PAYLOAD_MAX).map(|size| ("written", size));
+        let cut = (0..PAYLOAD_MAX).map(|size| ("too small", size));
+        let wanted: Vec<_> = accepted.chain(cut).collect();
+        let least = self.sizes.counts(&wanted)?.into_iter().min().unwrap_or(0);
         Ok(format!(
-            "1 to 223 bytes written, 0 to 222 too small, each {} times or more",
-            least.unwrap_or(0)
+            "1 to 223 bytes written, 0 to 222 too small, each {least} times or more"
         ))
     }
 }

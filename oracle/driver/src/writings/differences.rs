@@ -1,11 +1,12 @@
 //! Where the Rust is known to part from document 01 on writing, told by the input alone. Such a case is not
 //! compared with it; it is counted, and each reason has to show a case that does differ.
+use super::asked::Asked;
 use super::case::Case;
-use super::kinds::{number_field, takes_value};
-use super::sides::{Answers, Asked};
-use super::smallest::{is_smaller, shrink};
+use super::kinds::takes_value;
 use crate::numbers::case::{self as number, Call};
 use crate::numbers::differences::{self as numbers, reason};
+use crate::payload::described::number_field;
+use crate::tally;
 use model::Refusal;
 use model::numbers::{Kind, Value};
 use model::tables::{Field, PAYLOAD_MAX};
@@ -14,13 +15,9 @@ use model::writing::{Encoded, Fault, Given, TEXT_MAX};
 /// The bytes that the Rust's values have room for.
 const RUST_BYTES: u64 = 230;
 
-#[derive(Clone, Copy, Debug, PartialEq, Eq)]
+#[derive(Clone, Copy, Debug, PartialEq, Eq, PartialOrd, Ord)]
 pub enum Reason {
-    LookupWritten,
-    UnitResolution,
-    FloatTakes,
-    FloatNan,
-    FarBelow,
+    Number(numbers::Reason),
     SpareZeros,
     FixedText,
     AbsentText,
@@ -33,13 +30,13 @@ pub enum Reason {
     RefusedTable,
 }
 
-impl Reason {
-    pub const ALL: [Reason; 15] = [
-        Reason::LookupWritten,
-        Reason::UnitResolution,
-        Reason::FloatTakes,
-        Reason::FloatNan,
-        Reason::FarBelow,
+impl tally::Reason for Reason {
+    const ALL: &'static [Reason] = &[
+        Reason::Number(numbers::Reason::LookupWritten),
+        Reason::Number(numbers::Reason::UnitResolution),
+        Reason::Number(numbers::Reason::FloatTakes),
+        Reason::Number(numbers::Reason::FloatNan),
+        Reason::Number(numbers::Reason::FarBelow),
         Reason::SpareZeros,
         Reason::FixedText,
         Reason::AbsentText,
@@ -51,15 +48,11 @@ impl Reason {
         Reason::LongBuffer,
         Reason::RefusedTable,
     ];
+    const COUNTED: [&'static str; 2] = [" cases", " by it alone"];
 
-    /// What the Rust does.
-    pub fn text(self) -> &'static str {
+    fn text(self) -> &'static str {
         match self {
-            Reason::LookupWritten => numbers::Reason::LookupWritten.text(),
-            Reason::UnitResolution => numbers::Reason::UnitResolution.text(),
-            Reason::FloatTakes => numbers::Reason::FloatTakes.text(),
-            Reason::FloatNan => numbers::Reason::FloatNan.text(),
-            Reason::FarBelow => numbers::Reason::FarBelow.text(),
+            Reason::Number(reason) => reason.text(),
             Reason::SpareZeros => "Spare is written as zeros",
             Reason::FixedText => "StringFix takes the bytes that its text has",
             Reason::AbsentText => "an absent StringLau is written 02 01",
@@ -133,14 +126,7 @@ fn is_of_width(field: &Field, length: u64) -> bool {
 
 fn of_number(field: &Field, value: Value) -> Option<Reason> {
     let case = number::Case::new(number_field(field), Call::RawOf(value));
-    match reason(&case)? {
-        numbers::Reason::LookupWritten => Some(Reason::LookupWritten),
-        numbers::Reason::UnitResolution => Some(Reason::UnitResolution),
-        numbers::Reason::FloatTakes => Some(Reason::FloatTakes),
-        numbers::Reason::FloatNan => Some(Reason::FloatNan),
-        numbers::Reason::FarBelow => Some(Reason::FarBelow),
-        numbers::Reason::Mark | numbers::Reason::MmsiZero => None,
-    }
+    reason(&case).map(Reason::Number)
 }
 
 /// What the walk stops at, with the value that comes next.
@@ -196,81 +182,5 @@ fn of_long(field: &Field, length: u64) -> Option<Reason> {
         Kind::StringFix => Some(Reason::FixedText),
         Kind::StringLz | Kind::StringLau => (length > TEXT_MAX).then_some(Reason::LongText),
         _ => None,
-    }
-}
-
-/// The cases left out for each reason.
-#[derive(Default)]
-pub struct LeftOut {
-    met: [usize; Reason::ALL.len()],
-    differing: [usize; Reason::ALL.len()],
-    smallest: [Option<Case>; Reason::ALL.len()],
-}
-
-impl LeftOut {
-    pub fn count(&mut self, answers: &Answers) {
-        for reason in Reason::ALL {
-            self.met[reason as usize] += usize::from(answers.excused.contains(&reason));
-        }
-        let Some(reason) = parting(answers) else {
-            return;
-        };
-        let i = reason as usize;
-        self.differing[i] += 1;
-        let known = self.smallest[i].as_ref();
-        if known.is_none_or(|known| is_smaller(answers.case, known)) {
-            self.smallest[i] = Some(answers.case.clone());
-        }
-    }
-
-    /// The count of a reason, which fails if no case differs: it would leave cases out for nothing.
-    pub fn outcome(&self, reason: Reason) -> Result<String, String> {
-        let i = reason as usize;
-        let (met, differing) = (self.met[i], self.differing[i]);
-        let Some(case) = &self.smallest[i] else {
-            return Err(format!("none of {met} differs"));
-        };
-        Ok(format!(
-            "{met} cases, {differing} differ by it alone, such as{}",
-            shown(case, reason)
-        ))
-    }
-}
-
-/// The reason for which the Rust does differ in a case, if there is no other.
-fn parting(answers: &Answers) -> Option<Reason> {
-    let (first, rest) = answers.excused.split_first()?;
-    let is_alone = rest.iter().all(|other| other == first);
-    let differs = *answers.rust.as_ref()? != answers.model;
-    (is_alone && differs).then_some(*first)
-}
-
-/// The case made as small as it gets, and both answers.
-fn shown(case: &Case, reason: Reason) -> String {
-    let parts = |case: &Case| {
-        let asked = Asked::new(&case.words);
-        parting(&Answers::new(case, &asked, None)) == Some(reason)
-    };
-    let case = shrink(case, &mut |steps| steps.iter().position(parts));
-    let asked = Asked::new(&case.words);
-    let answers = Answers::new(&case, &asked, None);
-    let rust = answers.rust.map_or(String::new(), |rust| rust.text());
-    format!(
-        "\n  {}\n  there: {rust}\n  here: {}",
-        short_line(&case),
-        answers.model.text()
-    )
-}
-
-/// The case as a line, without the middle of a long text.
-fn short_line(case: &Case) -> String {
-    const SHOWN: usize = 60;
-    let (line, length) = (case.line(), case.text.len());
-    match 2 * length {
-        0..=SHOWN => line,
-        digits => format!(
-            "{}.. ({length} bytes)",
-            &line[..line.len() - digits + SHOWN]
-        ),
     }
 }

@@ -1,8 +1,10 @@
 //! Small tables whose values are gone through one by one.
 use super::case::Case;
 use super::cases::LONGEST;
-use super::kinds::{is_bytes, number_field};
+use super::kinds::is_bytes;
 use super::records::records;
+use crate::payload::described::number_field;
+use crate::payload::exhaustive::{after, every_counter, every_kind};
 use crate::tables::built_in::{
     bare, double, field, number, set, signed, single, table, table_129026,
 };
@@ -13,6 +15,17 @@ use model::writing::Given;
 
 /// What is done with the cases of a table.
 type Each<'a> = &'a mut dyn FnMut(Vec<Case>);
+
+/// Every set of cases, with counters of up to so many bits.
+pub fn all(counter_bits: u32, each: Each) {
+    every_kind(|table, field, before| each(of_kind(table, field, before)));
+    scaled(each);
+    texts(each);
+    sizes(each);
+    every_counter(counter_bits, |table, widths, raw| {
+        each(counted(table, widths, raw));
+    });
+}
 
 /// A lent text that is longer than any text may be.
 const TEXT: usize = 300;
@@ -46,15 +59,7 @@ fn case(words: &[u64], size: usize, values: &[Given]) -> Case {
     }
 }
 
-/// A field behind a number of so many bits, 1 if there is one.
-fn after(width: u32, field: Field) -> Vec<Field> {
-    match width {
-        0 => vec![field],
-        width => vec![number(width), field],
-    }
-}
-
-/// The same for a value.
+/// A value behind a number of so many bits, 1 if there is one.
 fn after_one(width: u32, value: Given) -> Vec<Given> {
     match width {
         0 => vec![value],
@@ -67,23 +72,7 @@ fn around(bytes: usize) -> [usize; 3] {
     [bytes.saturating_sub(1), bytes, bytes + 1].map(|size| size.min(PAYLOAD_MAX))
 }
 
-/// Every kind at every width that is accepted, signed and not, aligned and not: values at the field's ends
-/// and just beyond, of other kinds and lengths.
-pub fn kinds(each: Each) {
-    for kind in tables::KINDS {
-        for width in 1..=1784 {
-            for described in [field(kind, width), signed(field(kind, width))] {
-                for before in [0, 3] {
-                    let table = table(&after(before, described), &[]);
-                    if tables::check(&table).is_ok() {
-                        each(of_kind(&table, &described, before));
-                    }
-                }
-            }
-        }
-    }
-}
-
+/// Values at the field's ends and just beyond, of other kinds and lengths.
 fn of_kind(table: &Table, field: &Field, before: u32) -> Vec<Case> {
     let words = pack(table);
     let width = field.width.unwrap_or(0);
@@ -99,7 +88,7 @@ fn of_kind(table: &Table, field: &Field, before: u32) -> Vec<Case> {
 
 /// The kinds that take a resolution at every width, signed and not: values at the field's ends, half a unit
 /// and a unit beyond them, far out, and of other kinds.
-pub fn scaled(each: Each) {
+fn scaled(each: Each) {
     for kind in tables::KINDS {
         for width in 1..=64 {
             for plain in [field(kind, width), signed(field(kind, width))] {
@@ -160,7 +149,7 @@ fn values_of(field: &Field) -> Vec<Given> {
 }
 
 /// Every length of both texts, with an encoding byte and without one, aligned and not.
-pub fn texts(each: Each) {
+fn texts(each: Each) {
     for kind in [Kind::StringLz, Kind::StringLau] {
         for before in [0, 4, 8] {
             let words = pack(&table(&after(before, bare(kind)), &[]));
@@ -177,35 +166,22 @@ pub fn texts(each: Each) {
     }
 }
 
-/// Every counter of up to `most` bits, with as many elements as it says, one less and one more.
-pub fn counters(most: u32, each: Each) {
-    for counter in 1..=most {
-        for width in [1, 7, 8, 12] {
-            for maximum in [1, 2, 255] {
-                let fields = [number(counter), number(width)];
-                let words = pack(&table(&fields, &[set(1, 1, 0, maximum)]));
-                for raw in 0..1u64 << counter {
-                    let elements = numbers::elements(counter, raw) as usize;
-                    each(counted(&words, raw, elements, counter, width));
-                }
-            }
-        }
-    }
-}
-
-fn counted(words: &[u64], raw: u64, elements: usize, counter: u32, width: u32) -> Vec<Case> {
+/// As many elements as the counter says, one less and one more.
+fn counted(table: &Table, [counter, width]: [u32; 2], raw: u64) -> Vec<Case> {
+    let words = pack(table);
+    let elements = numbers::elements(counter, raw) as usize;
     let mut values = vec![whole(ValueKind::U16, raw)];
     values.extend((0..=elements).map(|i| byte(i as u64 & 1)));
     let needed = (counter as usize + elements * width as usize).div_ceil(8);
     let size = needed.min(PAYLOAD_MAX);
     [elements, elements + 1, elements + 2]
-        .map(|count| case(words, size, &values[..count]))
+        .map(|count| case(&words, size, &values[..count]))
         .into()
 }
 
 /// Buffers of every size, too long ones too, for tables that end in each kind of text, in a number, in a
 /// skipped field and in a set.
-pub fn sizes(each: Each) {
+fn sizes(each: Each) {
     let text = bytes(5, None);
     let full = bytes(PAYLOAD_MAX as u64, None);
     let speed = Given::Number(Value::single(3.5));
@@ -238,10 +214,7 @@ pub fn sizes(each: Each) {
     ];
     for (table, values) in tables {
         let words = pack(&table);
-        each(
-            (0..=LONGEST)
-                .map(|size| case(&words, size, &values))
-                .collect(),
-        );
+        let cases = (0..=LONGEST).map(|size| case(&words, size, &values));
+        each(cases.collect());
     }
 }

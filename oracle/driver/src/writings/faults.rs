@@ -1,8 +1,9 @@
 //! Faults put into values that a table asks for, each at a place of its own.
-use super::kinds::{is_bytes, number_field};
-use super::made::{Made, any_count};
+use super::kinds::is_bytes;
+use super::made::{Made, any_counter};
 use super::records::{RECORD, Record, record};
 use super::values::{any_beyond, any_number};
+use crate::payload::described::number_field;
 use crate::random::Random;
 use model::tables::{Field, Table};
 use model::writing::{Given, TEXT_MAX};
@@ -65,41 +66,41 @@ pub fn faulty(
     random: &mut Random,
 ) -> Vec<u8> {
     let mut all: Vec<Record> = made.values.iter().map(|&value| record(value)).collect();
-    let field = made.fields.get(place).map(|&field| &table.fields[field]);
-    let changed = match fault {
-        Fault::Missing => {
-            all.truncate(place);
-            None
-        }
-        Fault::PutIn => {
-            all.insert(place, any_record(random));
-            None
-        }
+    match fault {
+        Fault::Missing => all.truncate(place),
+        Fault::PutIn => all.insert(place, any_record(random)),
         Fault::TakenOut if place < all.len() => {
             all.remove(place);
-            None
         }
         Fault::CutShort => {
             let bytes = all.as_flattened();
             let end = RECORD * place + random.up_to(RECORD - 1);
             return bytes[..end.min(bytes.len())].to_vec();
         }
-        _ => field.and_then(|field| {
-            let (old, text) = (made.values[place], made.text.len() as u64);
-            match fault {
-                Fault::Count => {
-                    let number = made.fields[place];
-                    let is_counter = table.sets.iter().any(|set| set.counter == number);
-                    is_counter.then(|| recounted(old, any_count(table, number, random)))
-                }
-                _ => changed(fault, field, old, text, random),
+        _ => {
+            if let Some(new) = replaced(fault, table, made, place, random) {
+                all[place] = new;
             }
-        }),
-    };
-    if let (Some(new), Some(old)) = (changed, all.get_mut(place)) {
-        *old = new;
+        }
     }
     all.into_flattened()
+}
+
+/// The record that a fault leaves at a place, if there is one.
+fn replaced(
+    fault: Fault,
+    table: &Table,
+    made: &Made,
+    place: usize,
+    random: &mut Random,
+) -> Option<Record> {
+    let number = *made.fields.get(place)?;
+    let (old, text) = (made.values[place], made.text.len() as u64);
+    if fault == Fault::Count {
+        let is_counter = table.sets.iter().any(|set| set.counter == number);
+        return is_counter.then(|| recounted(old, any_counter(table, number, random)));
+    }
+    changed(fault, &table.fields[number], old, text, random)
 }
 
 /// The same counter with another number, of the same kind where that holds it.
@@ -123,53 +124,48 @@ fn changed(
         (Fault::Beyond, Given::Number(_)) => {
             Given::Number(any_beyond(&number_field(field), random)?)
         }
-        (
-            Fault::OtherLength,
-            Given::Bytes {
-                place, encoding, ..
-            },
-        ) => Given::Bytes {
-            place,
-            length: any_length(field, random),
-            encoding,
-        },
-        (
-            Fault::Past,
-            Given::Bytes {
-                length, encoding, ..
-            },
-        ) => {
-            let (place, length) = any_past(length, text, random);
-            Given::Bytes {
-                place,
-                length,
-                encoding,
-            }
-        }
-        (
-            Fault::Encoding,
-            Given::Bytes {
-                place,
-                length,
-                encoding,
-            },
-        ) => Given::Bytes {
-            place,
-            length,
-            encoding: match encoding {
-                Some(_) => None,
-                None => Some(random.next() as u8),
-            },
-        },
         (Fault::AnyBytes, _) => return Some(any_record(random)),
         (Fault::ByteChanged, _) => {
             let mut bytes = record(old);
             bytes[random.up_to(RECORD - 1)] = random.next() as u8;
             return Some(bytes);
         }
+        (
+            _,
+            Given::Bytes {
+                place,
+                length,
+                encoding,
+            },
+        ) => changed_bytes(fault, field, (place, length, encoding), text, random)?,
         _ => return None,
     };
     Some(record(new))
+}
+
+/// Bytes of another length, past the lent text, or with an encoding byte put on or taken off.
+fn changed_bytes(
+    fault: Fault,
+    field: &Field,
+    (place, length, encoding): (u64, u64, Option<u8>),
+    text: u64,
+    random: &mut Random,
+) -> Option<Given> {
+    let (place, length, encoding) = match fault {
+        Fault::OtherLength => (place, any_length(field, random), encoding),
+        Fault::Past => {
+            let (place, length) = any_past(length, text, random);
+            (place, length, encoding)
+        }
+        Fault::Encoding if encoding.is_some() => (place, length, None),
+        Fault::Encoding => (place, length, Some(random.next() as u8)),
+        _ => return None,
+    };
+    Some(Given::Bytes {
+        place,
+        length,
+        encoding,
+    })
 }
 
 fn other_kind(field: &Field, random: &mut Random) -> Given {

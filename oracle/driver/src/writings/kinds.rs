@@ -1,20 +1,10 @@
 //! What a kind of field takes.
-use model::numbers::{Field as Number, Kind};
+use model::numbers::Kind;
 use model::tables::Field;
 
 /// All but Reserved and Spare take a value.
 pub fn takes_value(field: &Field) -> bool {
     !matches!(field.kind, Kind::Reserved | Kind::Spare)
-}
-
-/// A field as one that holds a number.
-pub fn number_field(field: &Field) -> Number {
-    Number {
-        kind: field.kind,
-        width: field.width.unwrap_or(1),
-        signed: field.signed,
-        scale: field.scale,
-    }
 }
 
 /// Whether a field takes bytes.

@@ -1,6 +1,7 @@
 //! Where among the values, which come in walk order, those of a field stand. The Rust asks for them by name
 //! and takes the number of elements from its caller: here it is what the counter's value says.
-use super::kinds::{number_field, takes_value};
+use super::kinds::takes_value;
+use crate::payload::described::number_field;
 use model::numbers;
 use model::tables::{Field, Set, Table};
 use model::writing::Given;

@@ -1,13 +1,14 @@
 //! Lines of input, in the form in which cases are shown: the cases that they are, and their answers.
-use super::call::{Call, Taken};
+use super::asked::Asked;
+use super::call::Taken;
 use super::case::Case;
 use super::records::{self, record};
-use super::sides::{Answers, Asked};
-use crate::numbers::case::VALUE_KINDS;
-use crate::readings::lines::{MALFORMED, parsed_bytes, parsed_decimal, parsed_word};
+use super::sides::Answers;
+use crate::numbers::value_kinds::value_kind_named;
+use crate::payload::call::Call;
+use crate::payload::lines::{MALFORMED, answer_lines, parsed_bytes, parsed_decimal, parsed_word};
 use model::numbers::{Value, ValueKind};
 use model::writing::Given;
-use std::io::{self, BufRead, BufWriter, Write, stdin, stdout};
 
 /// The longest buffer that is made for a line.
 const LONGEST: u64 = 1 << 16;
@@ -23,11 +24,7 @@ pub enum Side {
 
 /// Answers each line of standard input. True if all of it could be read and written.
 pub fn answer_input(side: Side) -> bool {
-    let mut output = BufWriter::new(stdout().lock());
-    let mut answer =
-        |line: io::Result<Vec<u8>>| output.write_all(answered(&line?, side).as_bytes());
-    let mut lines = stdin().lock().split(b'\n');
-    lines.try_for_each(&mut answer).is_ok() && output.flush().is_ok()
+    answer_lines(|line| answered(line, side)).is_ok()
 }
 
 fn answered(line: &[u8], side: Side) -> String {
@@ -82,16 +79,11 @@ fn parsed_record(text: &str) -> Option<Vec<u8>> {
             },
         },
         [kind, number] => Given::Number(Value {
-            kind: parsed_kind(kind)?,
+            kind: value_kind_named(kind).filter(|&kind| kind != ValueKind::Bytes)?,
             bits: parsed_word(number)?,
         }),
         _ => return None,
     };
     let bytes = record(value);
     (records::given(&bytes) == value).then(|| bytes.to_vec())
-}
-
-fn parsed_kind(name: &str) -> Option<ValueKind> {
-    let mut kinds = VALUE_KINDS.into_iter();
-    kinds.find(|&kind| format!("{kind:?}") == name && kind != ValueKind::Bytes)
 }

@@ -1,9 +1,10 @@
 //! Values for a whole table, in walk order, that say what the table asks for, and the text that is lent with
 //! them.
-use super::kinds::{number_field, takes_value};
+use super::kinds::takes_value;
 use super::values::any_right;
+use crate::payload::described::number_field;
 use crate::random::Random;
-use crate::readings::payloads::any_bytes;
+use crate::readings::payloads::{any_bytes, any_count};
 use model::numbers::{self, Kind, Value, ValueKind};
 use model::tables::{PAYLOAD_MAX, Table};
 use model::writing::Given;
@@ -107,7 +108,7 @@ impl Maker<'_> {
     /// A counter: few elements, as many as there may be, one more, all ones, or any.
     fn counter(&mut self, i: usize, random: &mut Random) -> Given {
         let field = &self.table.fields[i];
-        let raw = any_count(self.table, i, random);
+        let raw = any_counter(self.table, i, random);
         self.raws[i] = raw;
         let kinds = [
             ValueKind::U8,
@@ -169,17 +170,6 @@ impl Maker<'_> {
 }
 
 /// A counter's raw.
-pub fn any_count(table: &Table, counter: usize, random: &mut Random) -> u64 {
-    let width = table.fields[counter].width.unwrap_or(64);
-    let ones = u64::MAX >> (64 - width.min(64));
-    let mut sets = table.sets.iter().filter(|set| set.counter == counter);
-    let maximum = sets.next().map_or(0, |set| set.maximum as u64);
-    let raw = match random.up_to(11) {
-        0 => ones,
-        1 => random.next(),
-        2 => maximum,
-        3 => maximum + 1,
-        _ => random.up_to(4) as u64,
-    };
-    raw & ones
+pub fn any_counter(table: &Table, counter: usize, random: &mut Random) -> u64 {
+    any_count(table, counter, 12, random)
 }

@@ -4,7 +4,7 @@ use super::answer::{Answer, Outcome};
 use super::case::Case;
 use super::kinds::takes_value;
 use super::laid::Laid;
-use crate::readings::oracles::number_of;
+use crate::payload::described::number_of;
 use model::numbers::Kind;
 use model::tables::Table;
 use model::writing::Given;
@@ -47,11 +47,11 @@ fn fetched(kind: Kind, place: u64, length: u64, encoding: Option<u8>, text: &[u8
 }
 
 macro_rules! writing_of {
-    ($krate:ident, $numbers:ident) => {
+    ($krate:ident, $types:ident) => {
         use super::{Answer, Case, Fetched, Given, Laid, Outcome, Table, TooMany};
         use super::{fetched, number_of, takes_value};
-        use crate::numbers::oracles::$numbers::to_rust;
-        use crate::readings::oracles::$numbers::leaked;
+        use crate::oracle_types::$types::to_rust;
+        use crate::payload::described::$types::described;
         use ::$krate::core::{PgnBytes, PgnDescriptor, PgnValue};
         use ::$krate::error::{BitWriterError, SerializationError};
         use ::$krate::infra::codec::engine::serialize;
@@ -70,7 +70,7 @@ macro_rules! writing_of {
             pub fn new(table: &Table) -> Asked {
                 Asked {
                     table: table.clone(),
-                    descriptor: leaked(table),
+                    descriptor: described(table),
                 }
             }
 

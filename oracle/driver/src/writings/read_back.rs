@@ -1,10 +1,12 @@
 //! What was written is read again: `samopute_decode` on the bytes used of each accepted encode has to give
 //! the same fields, elements, spans, raws and bytes, a StringFix with its fill, and to end at the same bit.
-use super::call::{Call, Taken};
+use super::call::Taken;
 use super::case::Case;
-use super::smallest::{is_smaller, shrink};
+use crate::payload::call::Call;
+use crate::payload::smaller::Smaller;
 use crate::readings::boundary::records::{self, COUNT, RECORD};
 use crate::samopute;
+use crate::tally::Differing;
 use model::reading::{self, PADDING, Reading};
 use model::tables;
 use model::writing::{Content, Encoded, Written, encode};
@@ -14,12 +16,10 @@ const MORE: usize = 2;
 
 #[derive(Default)]
 pub struct ReadBack {
-    cases: usize,
+    cases: Differing<Case>,
     fields: usize,
     texts: usize,
     filled: usize,
-    differing: usize,
-    smallest: Option<Case>,
 }
 
 /// What a decode gives: the readings, the end, and the working payload.
@@ -37,37 +37,26 @@ impl ReadBack {
             return;
         };
         let back = decoded(case, payload, encoded.written.len());
-        self.cases += 1;
+        self.cases.met += 1;
         self.filled += usize::from(back.is_filled);
         for written in &encoded.written {
             self.fields += usize::from(written.content != Content::Skipped);
             self.texts += usize::from(matches!(written.content, Content::Bytes { .. }));
         }
-        if is_same(encoded, &back) {
-            return;
-        }
-        self.differing += 1;
-        let known = self.smallest.as_ref();
-        if known.is_none_or(|known| is_smaller(case, known)) {
-            self.smallest = Some(case.clone());
+        if !is_same(encoded, &back) {
+            (self.cases).add(|known| case.is_smaller(known), || case.clone());
         }
     }
 
     pub fn outcome(&self) -> Result<String, String> {
-        if let Some(case) = &self.smallest {
-            return Err(format!(
-                "{} of {} cases differ, such as\n  {}",
-                self.differing,
-                self.cases,
-                shown(case)
-            ));
-        }
-        if [self.cases, self.fields, self.texts, self.filled].contains(&0) {
+        self.cases.none(shown)?;
+        let cases = self.cases.met;
+        if [cases, self.fields, self.texts, self.filled].contains(&0) {
             return Err("no case, no field, no text or no filled payload".to_string());
         }
         Ok(format!(
-            "{} cases, {} fields, of which {} texts and bytes; {} payloads filled to be read",
-            self.cases, self.fields, self.texts, self.filled
+            "{cases} cases, {} fields, of which {} texts and bytes; {} payloads filled to be read",
+            self.fields, self.texts, self.filled
         ))
     }
 }
@@ -147,7 +136,7 @@ fn shown(case: &Case) -> String {
         (encoded, Some(back)) if encoded.outcome.is_ok() => !is_same(&encoded, &back),
         _ => false,
     };
-    let case = shrink(case, &mut |steps| steps.iter().position(differs));
+    let case = case.shrunk(|steps| steps.iter().position(differs));
     let (encoded, back) = read(&case);
     let read = back.map_or("nothing".to_string(), |back| {
         format!(
@@ -156,7 +145,7 @@ fn shown(case: &Case) -> String {
         )
     });
     format!(
-        "{}\n    {read}\n  where this was written\n    {:?}, end {}",
+        "\n  {}\n    {read}\n  where this was written\n    {:?}, end {}",
         case.line(),
         encoded.written,
         encoded.cursor

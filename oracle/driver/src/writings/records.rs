@@ -1,7 +1,7 @@
 //! Values as the library takes them: records of 24 bytes, low byte first.
 use crate::case::hex;
-use crate::numbers::case::{VALUE_KINDS, value_code};
-use model::numbers::{Value, ValueKind, limits, meant};
+use crate::numbers::value_kinds::{is_of, value_code, value_kind};
+use model::numbers::{Value, ValueKind};
 use model::writing::Given;
 
 /// The bytes of a record.
@@ -49,15 +49,14 @@ pub fn given(record: &[u8]) -> Given {
         return Given::Nothing;
     };
     let word = |at: usize| u64::from_le_bytes(record[at..at + 8].try_into().expect("8 bytes"));
-    let code = u32::from(record[0]);
     let bits = word(NUMBER);
-    match VALUE_KINDS.iter().find(|&&kind| value_code(kind) == code) {
+    match value_kind(record[0].into()) {
         Some(ValueKind::Bytes) => Given::Bytes {
             place: bits,
             length: word(LENGTH),
             encoding: (record[FLAG] != 0).then_some(record[ENCODING]),
         },
-        Some(&kind) if is_of(kind, bits) => Given::Number(Value { kind, bits }),
+        Some(kind) if is_of(kind, bits) => Given::Number(Value { kind, bits }),
         _ => Given::Nothing,
     }
 }
@@ -65,43 +64,6 @@ pub fn given(record: &[u8]) -> Given {
 /// The values that bytes are. What is left at their end counts for one.
 pub fn all_given(bytes: &[u8]) -> Vec<Given> {
     bytes.chunks(RECORD).map(given).collect()
-}
-
-/// Whether there is such a kind and 64 bits are a value of it. Any are a place of bytes.
-pub fn is_value(code: u32, bits: u64) -> bool {
-    match VALUE_KINDS.iter().find(|&&kind| value_code(kind) == code) {
-        Some(ValueKind::Bytes) => true,
-        Some(&kind) => is_of(kind, bits),
-        None => false,
-    }
-}
-
-/// Whether 64 bits are a number of the kind: none is cut to its low bits.
-fn is_of(kind: ValueKind, bits: u64) -> bool {
-    match kind {
-        ValueKind::F64 => true,
-        ValueKind::F32 => bits <= u32::MAX.into(),
-        kind => {
-            let (width, signed) = whole(kind).expect("the other kinds are integers");
-            let (smallest, largest) = limits(width, signed);
-            (smallest..=largest).contains(&meant(bits, 64, signed))
-        }
-    }
-}
-
-/// The width and the sign of an integer kind.
-pub fn whole(kind: ValueKind) -> Option<(u32, bool)> {
-    match kind {
-        ValueKind::U64 => Some((64, false)),
-        ValueKind::U32 => Some((32, false)),
-        ValueKind::U16 => Some((16, false)),
-        ValueKind::U8 => Some((8, false)),
-        ValueKind::I64 => Some((64, true)),
-        ValueKind::I32 => Some((32, true)),
-        ValueKind::I16 => Some((16, true)),
-        ValueKind::I8 => Some((8, true)),
-        ValueKind::F64 | ValueKind::F32 | ValueKind::Bytes => None,
-    }
 }
 
 /// `KIND:NUMBER` in hexadecimal or `Bytes:PLACE:LENGTH:ENCODING`; of a record that says more or less, its

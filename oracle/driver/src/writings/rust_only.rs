@@ -2,11 +2,11 @@
 //! show: it asks for a value of a skipped field and for the number of elements beside their counter, and
 //! it takes a StringLau's first byte for the encoding byte. Each has to differ.
 use super::answer::{Answer, Outcome};
-use super::by_hand::{byte, text};
 use super::case::Case;
 use super::records::records;
+use super::worked::{byte, text};
 use crate::case::hex;
-use crate::readings::oracles::rust::leaked;
+use crate::payload::described::rust::described;
 use crate::report::Report;
 use crate::tables::built_in::{bare, field, number, set, table};
 use crate::tables::words::pack;
@@ -62,7 +62,7 @@ impl FieldAccess for Message {
 /// What the Rust answers with a buffer of one byte or two.
 fn rust(table: &Table, message: &Message, size: usize) -> String {
     let mut buffer = vec![0; size];
-    let outcome = match serialize(message, &mut buffer, leaked(table)) {
+    let outcome = match serialize(message, &mut buffer, described(table)) {
         Ok(used) => format!("ok {used}"),
         Err(SerializationError::FieldNotFound { .. }) => "no value".to_string(),
         Err(error) => format!("{error:?}"),

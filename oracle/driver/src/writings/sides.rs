@@ -1,38 +1,13 @@
 //! The same case asked of the four sides: the library under test, the model, the oracle with stand-ins, and
 //! the Rust unchanged.
 use super::answer::{self, Answer, Outcome};
+use super::asked::Asked;
 use super::call::Taken;
 use super::case::Case;
 use super::differences::{Reason, reasons};
-use super::oracles::{rust, standin};
-use model::tables::{self, Table};
+use crate::pair::Pair;
+use crate::payload::held::{Answered, Held};
 use model::writing::{Encoded, Fault};
-
-/// A refused table is asked of the Rust only if it has no more fields than this, and no set, as each that
-/// is asked stays in memory.
-const SMALL: usize = 8;
-
-/// The oracles made ready for a table.
-pub struct Asked {
-    pub table: Table,
-    pub is_accepted: bool,
-    standin: Option<standin::Asked>,
-    rust: Option<rust::Asked>,
-}
-
-impl Asked {
-    pub fn new(words: &[u64]) -> Asked {
-        let table = tables::read(words);
-        let is_accepted = tables::check(&table).is_ok();
-        let is_small = table.fields.len() <= SMALL && table.sets.is_empty();
-        Asked {
-            is_accepted,
-            standin: is_accepted.then(|| standin::Asked::new(&table)),
-            rust: (is_accepted || is_small).then(|| rust::Asked::new(&table)),
-            table,
-        }
-    }
-}
 
 /// What the sides answer to a case.
 pub struct Answers<'a> {
@@ -79,6 +54,15 @@ impl<'a> Answers<'a> {
             encoded,
         }
     }
+
+    /// The answer that a side is held against, if it can be asked.
+    fn against(&self, pair: Pair) -> Option<&Answer> {
+        match pair {
+            Pair::OursModel => Some(&self.model),
+            Pair::OursStandin | Pair::ModelStandin => self.standin.as_ref(),
+            Pair::OursRust | Pair::ModelRust => self.rust.as_ref(),
+        }
+    }
 }
 
 impl Ours<'_> {
@@ -87,70 +71,79 @@ impl Ours<'_> {
     }
 }
 
-/// One side, and the one that it is held against.
-#[derive(Clone, Copy, Debug, PartialEq, Eq)]
-pub enum Pair {
-    OursModel,
-    OursStandin,
-    OursRust,
-    ModelStandin,
-    ModelRust,
-}
-
-impl Pair {
-    pub const ALL: [Pair; 5] = [
-        Pair::OursModel,
-        Pair::OursStandin,
-        Pair::OursRust,
-        Pair::ModelStandin,
-        Pair::ModelRust,
-    ];
-
-    pub fn name(self) -> &'static str {
-        match self {
-            Pair::OursModel => "writings against the model",
-            Pair::OursStandin => "writings against the stand-ins",
-            Pair::OursRust => "writings against the Rust",
-            Pair::ModelStandin => "the model's writings against the stand-ins",
-            Pair::ModelRust => "the model's writings against the Rust",
-        }
+impl Answered<Case> for Answers<'_> {
+    fn case(&self) -> &Case {
+        self.case
     }
 
-    pub fn is_ours(self) -> bool {
-        matches!(self, Pair::OursModel | Pair::OursStandin | Pair::OursRust)
+    fn number(&self) -> u32 {
+        self.model.number()
     }
 
-    /// The answer that a side is held against, if it speaks.
-    fn against<'a>(self, answers: &'a Answers) -> Option<&'a Answer> {
-        match self {
-            Pair::OursModel => Some(&answers.model),
-            Pair::OursStandin | Pair::ModelStandin => answers.standin.as_ref(),
-            Pair::OursRust | Pair::ModelRust => {
-                answers.rust.as_ref().filter(|_| answers.excused.is_empty())
-            }
-        }
-    }
-
-    /// Whether the two differ, if both speak.
-    pub fn differs(self, answers: &Answers) -> Option<bool> {
-        let against = self.against(answers)?;
-        match (self, &answers.ours) {
+    fn differs(&self, pair: Pair) -> Option<bool> {
+        let is_rust = matches!(pair, Pair::OursRust | Pair::ModelRust);
+        let is_compared = !is_rust || self.excused.is_empty();
+        let against = self.against(pair).filter(|_| is_compared)?;
+        match (pair, &self.ours) {
             (Pair::OursModel, Some(ours)) => Some(!ours.is_the_models),
             (Pair::OursStandin | Pair::OursRust, Some(ours)) => Some(ours.differs(against)),
-            (Pair::ModelStandin | Pair::ModelRust, _) => Some(answers.model != *against),
+            (Pair::ModelStandin | Pair::ModelRust, _) => Some(self.model != *against),
             (_, None) => None,
         }
     }
 
-    /// Both answers as they are printed, the side's first.
-    pub fn texts(self, answers: &Answers) -> [String; 2] {
-        let side = match &answers.ours {
-            Some(ours) if self.is_ours() => ours.taken.text(),
-            _ => answers.model.text(),
+    fn texts(&self, pair: Pair) -> [String; 2] {
+        let side = match &self.ours {
+            Some(ours) if pair.is_ours() => ours.taken.text(),
+            _ => self.model.text(),
         };
-        [
-            side,
-            self.against(answers).map_or(String::new(), Answer::text),
-        ]
+        [side, self.against(pair).map_or(String::new(), Answer::text)]
+    }
+
+    fn excused(&self) -> Vec<Reason> {
+        let mut all = self.excused.clone();
+        all.sort_unstable();
+        all.dedup();
+        all
+    }
+
+    /// The reason for which the Rust does differ, if there is no other.
+    fn parting(&self) -> Vec<Reason> {
+        let mut excused = self.excused();
+        let differs = self.rust.as_ref().is_some_and(|rust| *rust != self.model);
+        excused.retain(|_| differs);
+        if excused.len() == 1 { excused } else { vec![] }
+    }
+}
+
+impl Held for Case {
+    type Ours = Taken;
+    type Reason = Reason;
+    const NAME: &'static str = "writings";
+
+    fn words(&self) -> &[u64] {
+        &self.words
+    }
+
+    fn line(&self) -> String {
+        self.line()
+    }
+
+    fn last(&self) -> &[u8] {
+        &self.text
+    }
+
+    /// The oracles have neither 7 nor 8, the Rust no 5.
+    fn has_outcome(pair: Pair, number: u32) -> bool {
+        match pair {
+            Pair::OursModel => true,
+            Pair::OursStandin | Pair::ModelStandin => !matches!(number, 7 | 8),
+            Pair::OursRust | Pair::ModelRust => !matches!(number, 5 | 7 | 8),
+        }
+    }
+
+    fn asked<T>(&self, ours: Option<&Taken>, then: impl FnOnce(&dyn Answered<Case>) -> T) -> T {
+        let asked = Asked::new(&self.words);
+        then(&Answers::new(self, &asked, ours))
     }
 }

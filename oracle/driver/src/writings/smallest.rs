@@ -1,42 +1,63 @@
-//! Makes a case smaller, as long as it still shows what it is kept for.
+//! What makes a case smaller than another.
 use super::case::Case;
 use super::laid::Laid;
 use super::records::{self, RECORD, record};
-use crate::readings::smallest::{
-    FEW, STEPS, shorter, smaller_bytes, smaller_tables, smaller_words, without_field,
+use crate::payload::smaller::{
+    Smaller, few_fields, shorter, smaller_bytes, smaller_tables, smaller_words, without_field,
 };
 use crate::tables::words::pack;
 use model::numbers::Value;
-use model::tables::{self, Table};
+use model::tables::Table;
 use model::writing::Given;
 
-/// A case that no single step makes smaller. `find` picks one of several smaller cases that still shows it.
-pub fn shrink(case: &Case, find: &mut dyn FnMut(&[Case]) -> Option<usize>) -> Case {
-    let mut case = case.clone();
-    for _ in 0..STEPS {
-        let mut smaller = steps(&case);
-        smaller.retain(|step| is_smaller(step, &case));
-        match find(&smaller) {
-            Some(i) => case = smaller.swap_remove(i),
-            None => break,
-        }
+impl Smaller for Case {
+    fn is_smaller(&self, other: &Case) -> bool {
+        size(self) < size(other)
     }
-    case
+
+    fn steps(&self) -> Vec<Case> {
+        let mut all = Vec::new();
+        let with_words = |words: Vec<u64>| Case {
+            words,
+            ..self.clone()
+        };
+        let with_text = |text: Vec<u8>| Case {
+            text,
+            ..self.clone()
+        };
+        let with_values = |values: Vec<u8>| Case {
+            values,
+            ..self.clone()
+        };
+        if let Some(table) = few_fields(&self.words) {
+            all.extend(without_values(&table, self));
+            all.extend(smaller_tables(table).map(|table| with_words(pack(&table))));
+        }
+        all.extend(fewer(&self.values).map(with_values));
+        all.extend(shorter(&self.text).map(with_text));
+        for size in [0, self.size / 2, self.size.saturating_sub(1)] {
+            all.push(Case {
+                size,
+                ..self.clone()
+            });
+        }
+        all.extend(smaller_words(&self.words).map(with_words));
+        all.extend(smaller_values(&self.values).map(with_values));
+        all.extend(smaller_bytes(&self.text).map(with_text));
+        all
+    }
 }
 
 /// Fewer fields and sets come first, then fewer values, less text and a smaller buffer, then the numbers.
-pub fn is_smaller(one: &Case, other: &Case) -> bool {
-    fn size(case: &Case) -> ([usize; 4], &[u64], Vec<u64>, &[u8]) {
-        let lengths = [case.words.len(), case.values.len(), case.text.len()];
-        let [words, values, text] = lengths;
-        (
-            [words, values, text, case.size],
-            &case.words,
-            numbers(&case.values),
-            &case.text,
-        )
-    }
-    size(one) < size(other)
+fn size(case: &Case) -> ([usize; 4], &[u64], Vec<u64>, &[u8]) {
+    let lengths = [case.words.len(), case.values.len(), case.text.len()];
+    let [words, values, text] = lengths;
+    (
+        [words, values, text, case.size],
+        &case.words,
+        numbers(&case.values),
+        &case.text,
+    )
 }
 
 /// The numbers of records, low byte first.
@@ -46,39 +67,6 @@ fn numbers(values: &[u8]) -> Vec<u64> {
         bytes.fold(0, |number, &byte| number << 8 | u64::from(byte))
     };
     values.chunks(8).map(number).collect()
-}
-
-fn steps(case: &Case) -> Vec<Case> {
-    let mut all = Vec::new();
-    let with_words = |words: Vec<u64>| Case {
-        words,
-        ..case.clone()
-    };
-    let with_text = |text: Vec<u8>| Case {
-        text,
-        ..case.clone()
-    };
-    let with_values = |values: Vec<u8>| Case {
-        values,
-        ..case.clone()
-    };
-    let table = tables::read(&case.words);
-    if table.fields.len().max(table.sets.len()) <= FEW {
-        all.extend(without_values(&table, case));
-        all.extend(smaller_tables(table).map(|table| with_words(pack(&table))));
-    }
-    all.extend(fewer(&case.values).map(with_values));
-    all.extend(shorter(&case.text).map(with_text));
-    for size in [0, case.size / 2, case.size.saturating_sub(1)] {
-        all.push(Case {
-            size,
-            ..case.clone()
-        });
-    }
-    all.extend(smaller_words(&case.words).map(with_words));
-    all.extend(smaller_values(&case.values).map(with_values));
-    all.extend(smaller_bytes(&case.text).map(with_text));
-    all
 }
 
 /// A field outside sets taken out together with its value.

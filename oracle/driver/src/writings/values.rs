@@ -1,6 +1,5 @@
 //! Values for a field that holds a number: right ones, those out of its range, and those of another kind.
-use super::records::whole;
-use crate::numbers::case::VALUE_KINDS;
+use crate::numbers::value_kinds::{VALUE_KINDS, whole};
 use crate::random::Random;
 use model::numbers::{self, Field, Kind, Scale, Value, ValueKind, limits, meant};
 

@@ -1,5 +1,6 @@
 //! Worked out by hand: values as bytes, each in its place, what is not looked at, and what is no value.
-use super::by_hand::{Worked, bytes, lends, of};
+use super::worked::{Worked, lends, of};
+use crate::payload::lines::worked_bytes as bytes;
 use crate::tables::built_in::{bare, double, field, number, signed};
 use model::numbers::Kind;
 use model::tables::Field;

@@ -1,10 +1,12 @@
 //! Worked out by hand: each refusal with a smallest input, and which of two comes first.
-use super::by_hand::{Worked, byte, double, encoded, lends, of, single, text, whole, writes};
+use super::worked::{
+    Worked, byte, counted, double, encoded, lends, of, one, shifted, single, text, whole, writes,
+};
 use crate::tables::built_in::{
-    self, bare, field, mismarked, number, set, signed, table, table_129026,
+    self, BINARY, FIX, LAU, LZ, bare, field, mismarked, number, set, signed, table, table_129026,
 };
 use model::numbers::{Kind, ValueKind};
-use model::tables::{Field, Table};
+use model::tables::Table;
 
 pub fn all() -> Vec<Worked> {
     let rules = [
@@ -18,21 +20,6 @@ pub fn all() -> Vec<Worked> {
         elements(),
     ];
     rules.into_iter().flatten().collect()
-}
-
-const FIX: Kind = Kind::StringFix;
-const LZ: Kind = Kind::StringLz;
-const LAU: Kind = Kind::StringLau;
-const BINARY: Kind = Kind::Binary;
-
-/// A field after a number of 4 bits.
-fn shifted(field: Field) -> Table {
-    of(&[number(4), field])
-}
-
-/// A counter of 8 bits and a set of one field of 8.
-fn counted(maximum: usize) -> Table {
-    table(&[number(8), number(8)], &[set(1, 1, 0, maximum)])
 }
 
 /// 7, 8: the buffer is kept.
@@ -81,51 +68,17 @@ fn other_kinds() -> Vec<Worked> {
         writes(0, kept, &[whole(ValueKind::I16, -1)], "F 11 0", ""),
         writes(1, signed_8, &[byte(1)], "F 11 0", "FF"),
         writes(1, scaled, &[byte(1)], "F 11 0", "FF"),
-        writes(
-            4,
-            of(&[field(Kind::Float, 32)]),
-            &[double(1.0)],
-            "F 11 0",
-            "FF*4",
-        ),
+        one(4, field(Kind::Float, 32), double(1.0), "", "F 11 0", "FF*4"),
         writes(1, of(&[field(FIX, 8)]), &[byte(0x41)], "F 11 0", "FF"),
         writes(1, of(&[field(BINARY, 8)]), &[byte(0x41)], "F 11 0", "FF"),
-        lends(
-            1,
-            of(&[field(BINARY, 4)]),
-            &[text(0, 1)],
-            "41",
-            "F 11 0",
-            "FF",
-        ),
+        one(1, field(BINARY, 4), text(0, 1), "41", "F 11 0", "FF"),
         // An encoding byte on all but StringLau.
         writes(1, of(&[field(FIX, 8)]), &[encoded(1, 0, 0)], "F 11 0", "FF"),
-        lends(
-            3,
-            of(&[bare(LZ)]),
-            &[encoded(1, 0, 1)],
-            "41",
-            "F 11 0",
-            "FF*3",
-        ),
-        lends(
-            1,
-            of(&[field(BINARY, 8)]),
-            &[encoded(1, 0, 1)],
-            "41",
-            "F 11 0",
-            "FF",
-        ),
+        one(3, bare(LZ), encoded(1, 0, 1), "41", "F 11 0", "FF*3"),
+        one(1, field(BINARY, 8), encoded(1, 0, 1), "41", "F 11 0", "FF"),
         // A StringLau's text without one, too long or not.
         lends(3, of(&[bare(LAU)]), &[text(0, 1)], "41", "F 11 0", "FF*3"),
-        lends(
-            223,
-            of(&[bare(LAU)]),
-            &[text(0, 222)],
-            long,
-            "F 11 0",
-            "FF*223",
-        ),
+        one(223, bare(LAU), text(0, 222), long, "F 11 0", "FF*223"),
         writes(1, of(&[bare(LAU)]), &[text(9, 1)], "F 11 0", "FF"),
     ]
 }
@@ -137,14 +90,8 @@ fn out_of_range() -> Vec<Worked> {
     let signed_unit = of(&[built_in::double(signed(number(8)), 1.0)]);
     let speed = of(&[built_in::single(number(16), 0.01)]);
     let over = whole(ValueKind::U16, 256);
-    let frame = |speed: f32| {
-        [
-            byte(0x2A),
-            byte(0),
-            single(15_708.0 * 0.0001),
-            single(speed),
-        ]
-    };
+    let course = single(15_708.0 * 0.0001);
+    let frame = |speed: f32| [byte(0x2A), byte(0), course, single(speed)];
     vec![
         writes(1, byte_wide.clone(), &[over], "F 10 0", "FF"),
         // Before 2.
@@ -182,14 +129,7 @@ fn too_long() -> Vec<Worked> {
         lends(2, fix.clone(), &[text(0, 2)], "4142", "F 13 0", "FFFF"),
         lends(3, binary.clone(), &[text(0, 1)], "414243", "F 13 0", "FF*3"),
         lends(3, binary, &[text(0, 3)], "414243", "F 13 0", "FF*3"),
-        lends(
-            223,
-            of(&[bare(LZ)]),
-            &[text(0, 222)],
-            "41*222",
-            "F 13 0",
-            "FF*223",
-        ),
+        one(223, bare(LZ), text(0, 222), "41*222", "F 13 0", "FF*223"),
         lends(
             223,
             lau.clone(),
@@ -249,38 +189,10 @@ fn beyond() -> Vec<Worked> {
         ),
         writes(1, gap, &[byte(1)], "F 2 1 8 0", "01"),
         writes(0, of(&[field(Kind::Spare, 1)]), &[], "F 2 0 1 0", ""),
-        lends(
-            3,
-            of(&[field(FIX, 32)]),
-            &[text(0, 1)],
-            "41",
-            "F 2 0 32 24",
-            "FF*3",
-        ),
-        lends(
-            1,
-            of(&[field(BINARY, 16)]),
-            &[text(0, 2)],
-            "4142",
-            "F 2 0 16 8",
-            "FF",
-        ),
-        lends(
-            3,
-            of(&[bare(LZ)]),
-            &[text(0, 2)],
-            "4142",
-            "F 2 0 32 24",
-            "FF*3",
-        ),
-        lends(
-            2,
-            of(&[bare(LAU)]),
-            &[encoded(1, 0, 1)],
-            "41",
-            "F 2 0 24 16",
-            "FFFF",
-        ),
+        one(3, field(FIX, 32), text(0, 1), "41", "F 2 0 32 24", "FF*3"),
+        one(1, field(BINARY, 16), text(0, 2), "4142", "F 2 0 16 8", "FF"),
+        one(3, bare(LZ), text(0, 2), "4142", "F 2 0 32 24", "FF*3"),
+        one(2, bare(LAU), encoded(1, 0, 1), "41", "F 2 0 24 16", "FFFF"),
         writes(1, of(&[bare(LAU)]), &[encoded(1, 0, 0)], "F 2 0 16 8", "FF"),
         writes(0, of(&[bare(LAU)]), &[text(0, 0)], "F 2 0 8 0", ""),
         writes(

@@ -1,6 +1,6 @@
 //! Worked out by hand: what each kind of field writes, and the walk around sets.
-use super::by_hand::{Worked, byte, double, encoded, lends, of, single, text, whole, writes};
-use crate::tables::built_in::{self, bare, field, number, set, signed, sized, table};
+use super::worked::{Worked, byte, double, encoded, lends, of, one, single, text, whole, writes};
+use crate::tables::built_in::{self, LAU, LZ, bare, field, number, set, signed, sized, table};
 use model::numbers::{Kind, Value, ValueKind};
 use model::writing::Given;
 
@@ -16,9 +16,6 @@ pub fn all() -> Vec<Worked> {
     rules.into_iter().flatten().collect()
 }
 
-const LZ: Kind = Kind::StringLz;
-const LAU: Kind = Kind::StringLau;
-
 /// "All bits after are ones"; "bytes used, rounded up".
 fn numbers() -> Vec<Worked> {
     let unit = of(&[built_in::double(number(8), 1.0)]);
@@ -29,6 +26,7 @@ fn numbers() -> Vec<Worked> {
         bits: 0xFF80_0001,
     });
     let wide = whole(ValueKind::U64, 0x1234);
+    let minus = whole(ValueKind::I64, -2);
     vec![
         writes(1, of(&[number(8)]), &[byte(42)], "ok 1", "2A"),
         writes(3, of(&[number(4)]), &[byte(1)], "ok 1", "F1FFFF"),
@@ -41,13 +39,7 @@ fn numbers() -> Vec<Worked> {
             "ok 2",
             "8DFF",
         ),
-        writes(
-            1,
-            of(&[signed(number(8))]),
-            &[whole(ValueKind::I64, -2)],
-            "ok 1",
-            "FE",
-        ),
+        writes(1, of(&[signed(number(8))]), &[minus], "ok 1", "FE"),
         writes(1, unit.clone(), &[double(255.4)], "ok 1", "FF"),
         writes(1, unit, &[double(-0.4)], "ok 1", "00"),
         writes(1, signed_unit, &[whole(ValueKind::I8, -128)], "ok 1", "80"),
@@ -91,10 +83,10 @@ fn fixed() -> Vec<Worked> {
         lends(32, last, &[text(0, 1)], "41", "F 2 0 264 256", "FF*32"),
         lends(3, shifted, &[byte(1), text(0, 2)], "4142", "ok 3", "014142"),
         // A lent text may be longer than any buffer that is read or written.
-        lends(
+        one(
             1,
-            of(&[field(Kind::StringFix, 8)]),
-            &[text(69_999, 1)],
+            field(Kind::StringFix, 8),
+            text(69_999, 1),
             "00*69999 41",
             "ok 1",
             "41",
@@ -167,13 +159,7 @@ fn sets() -> Vec<Worked> {
     let texts = table(&[number(8), bare(LAU), number(8)], &[set(1, 2, 0, 9)]);
     let of_texts = [byte(2), encoded(1, 0, 1), byte(5), text(0, 0), byte(6)];
     vec![
-        writes(
-            3,
-            bytes.clone(),
-            &[byte(2), byte(7), byte(8)],
-            "ok 3",
-            "020708",
-        ),
+        writes(3, bytes.clone(), &[2, 7, 8].map(byte), "ok 3", "020708"),
         writes(2, bytes.clone(), &[byte(0)], "ok 1", "00FF"),
         writes(2, bytes.clone(), &[byte(255)], "ok 1", "FFFF"),
         // All ones has no element, so that one is left over.
@@ -181,13 +167,7 @@ fn sets() -> Vec<Worked> {
         writes(3, followed, &[byte(1), byte(7), byte(9)], "ok 3", "010709"),
         // A counter of 1 bit never has an element.
         writes(1, bit, &[byte(1)], "ok 1", "FF"),
-        writes(
-            5,
-            shared,
-            &[byte(2), byte(5), byte(6), byte(7), byte(8)],
-            "ok 5",
-            "0205060708",
-        ),
+        writes(5, shared, &[2, 5, 6, 7, 8].map(byte), "ok 5", "0205060708"),
         writes(3, with_gap, &[byte(2), byte(1), byte(2)], "ok 3", "021F2F"),
         lends(7, texts, &of_texts, "41", "ok 7", "02030141 050106"),
     ]

@@ -1,9 +1,9 @@
 //! That the sides of the benchmark do the same work: ours and the Rust give the same readings, and the
 //! plain decoder their values.
 use super::kept::{Kept, keep};
+use super::lent::{Lent, MOST, PGN};
 use super::plain::{self, Position};
 use super::positions::Part;
-use super::{Lent, MOST, PGN};
 use crate::readings::boundary::records::{self, COUNT, RECORD};
 use crate::samopute::{self, CReading, Decoded};
 use korri_n2k::core::PgnDescriptor;

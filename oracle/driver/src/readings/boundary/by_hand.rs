@@ -1,7 +1,8 @@
 //! Calls whose answers were worked out by hand: the payloads of document 01 and its rules, and some with
 //! every number of their records.
-use super::call::{Call, Taken};
+use super::call::Taken;
 use super::records::{COUNT, RECORD};
+use crate::payload::call::Call;
 use crate::readings::by_hand;
 use crate::readings::case::{AMPLE, Case};
 use crate::readings::sides::Given;

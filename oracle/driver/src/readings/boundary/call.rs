@@ -1,35 +1,18 @@
 //! A decode through the interface, and all that it leaves.
 use super::lent::Buffers;
 use super::records::{self, COUNT, RECORD};
+use crate::payload::call::{BEFORE, Call, Left, lent};
 use crate::readings::answer::Answer;
 use crate::readings::case::Case;
+use crate::readings::refusal;
 use crate::readings::sides::Given;
-use crate::samopute::{self, Decoded};
+use crate::samopute;
 use model::reading::{Fault, Reading};
 use std::fmt::Write;
 use std::hint::black_box;
 
-/// What the numbers of an answer are before a call, and those beside them.
-pub const BEFORE: u64 = 0xA5A5_A5A5_A5A5_A5A5;
-
-/// How the table is given.
-#[derive(Clone, Copy, Debug)]
-pub enum Call {
-    Words,
-    Pgn(u32),
-}
-
-/// What a call leaves.
-#[derive(Clone, Debug, PartialEq, Eq)]
-pub struct Taken {
-    pub(super) status: u32,
-    /// The six numbers, with one that is not lent on each side.
-    pub(super) answer: [u64; 8],
-    pub(super) after: Buffers,
-    pub(super) before: Buffers,
-    /// Whether the words and the payload are as they were.
-    is_input_kept: bool,
-}
+/// The six numbers of the answer are lent.
+pub type Taken = Left<Buffers, 8>;
 
 impl Taken {
     pub fn new(case: &Case, call: Call) -> Taken {
@@ -37,7 +20,7 @@ impl Taken {
         let mut after = before.clone();
         let words = case.words.clone();
         let mut answer = [BEFORE; 8];
-        let (payload, lent) = (before.payload(), six(&mut answer));
+        let (payload, lent) = (before.payload.bytes(), lent(&mut answer));
         let (padding, readings) = (after.padding.bytes_mut(), after.readings.bytes_mut());
         let status = match call {
             Call::Words => samopute::decode(&words, payload, padding, readings, lent),
@@ -59,23 +42,11 @@ impl Taken {
         self.wanted(status, [0, 0, carried[0], carried[1], carried[2], 0])
     }
 
-    fn wanted(&self, status: u32, numbers: Decoded) -> Taken {
-        let mut answer = [BEFORE; 8];
-        *six(&mut answer) = numbers;
-        Taken {
-            status,
-            answer,
-            after: self.before.clone(),
-            before: self.before.clone(),
-            is_input_kept: true,
-        }
-    }
-
     /// What a call leaves that gives this answer.
     fn of_answer(&self, answer: &Answer) -> Taken {
         let [one, two, three] = match answer.outcome {
             Ok(end) => [end as u64, 0, 0],
-            Err(fault) => records::carried(fault),
+            Err(fault) => refusal::carried(fault),
         };
         if let Err(Fault::Length(_) | Fault::Table(_)) = answer.outcome {
             return self.untouched(answer.number(), [one, two, three]);
@@ -83,7 +54,7 @@ impl Taken {
         let count = answer.readings.len() as u64;
         // The run is told by the model up to its last changed byte: where it is filled, that is its length.
         let filled = answer.padding.len() as u64;
-        let unit = answer.outcome.err().map_or(0, records::unit);
+        let unit = answer.outcome.err().map_or(0, refusal::unit);
         let numbers = [count, filled, one, two, three, unit];
         let mut taken = self.wanted(answer.number(), numbers);
         taken.after.padding.put(0, &answer.padding);
@@ -133,7 +104,7 @@ impl Taken {
                 writeln!(text, "written outside: {name}, byte {at}").unwrap();
             }
         }
-        if [self.answer[0], self.answer[7]] != [BEFORE; 2] {
+        if self.is_answer_strayed() {
             writeln!(text, "written outside: answer").unwrap();
         }
         if let Some(at) = self.changed_behind() {
@@ -159,11 +130,6 @@ impl Taken {
     }
 }
 
-/// The six numbers that are lent.
-pub fn six(all: &mut [u64; 8]) -> &mut Decoded {
-    (&mut all[1..7]).try_into().expect("six numbers")
-}
-
 impl Given for Taken {
     fn is(&self, model: &Answer) -> bool {
         *self == self.of_answer(model)
@@ -175,7 +141,7 @@ impl Given for Taken {
         let outcome = match (self.status, rest) {
             (0, [0, 0]) if unit == 0 => Ok(one as usize),
             (0, _) => return None,
-            (number, [two, three]) => Err(records::fault(number, [one, two, three], unit)?),
+            (number, [two, three]) => Err(refusal::fault(number, [one, two, three], unit)?),
         };
         let answer = Answer {
             readings: self.readings()?,

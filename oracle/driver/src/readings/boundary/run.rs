@@ -1,10 +1,12 @@
 //! samopute_decode_run on the cases of samopute_decode: the same status, numbers and padding run, and each
 //! struct its record.
-use super::call::{BEFORE, Taken, six};
+use super::call::Taken;
 use super::records::{self, COUNT, RECORD};
+use crate::payload::call::{BEFORE, lent};
+use crate::payload::smaller::Smaller;
 use crate::readings::case::Case;
-use crate::readings::smallest::is_smaller;
 use crate::samopute::{self, CReading};
+use crate::tally::Differing;
 use std::hint::black_box;
 
 /// What structs hold before a call. No reading is of such a field.
@@ -13,43 +15,31 @@ const POISON: CReading = CReading::of([BEFORE; 8]);
 /// The call held against samopute_decode over one set of cases.
 pub struct Test {
     pub name: String,
-    cases: usize,
-    differing: usize,
-    smallest: Option<(Case, &'static str)>,
+    cases: Differing<(Case, &'static str)>,
 }
 
 impl Test {
     pub fn new(set: &str) -> Test {
         Test {
             name: format!("samopute_decode_run against samopute_decode, {set}"),
-            cases: 0,
-            differing: 0,
-            smallest: None,
+            cases: Differing::default(),
         }
     }
 
     pub fn compare(&mut self, case: &Case, taken: &Taken) {
-        self.cases += 1;
-        let Some(what) = difference(case, taken) else {
-            return;
-        };
-        self.differing += 1;
-        let known = self.smallest.as_ref();
-        if known.is_none_or(|(known, _)| is_smaller(case, known)) {
-            self.smallest = Some((case.clone(), what));
+        self.cases.met += 1;
+        if let Some(what) = difference(case, taken) {
+            let is_smaller = |known: &(Case, _)| case.is_smaller(&known.0);
+            self.cases.add(is_smaller, || (case.clone(), what));
         }
     }
 
     pub fn outcome(&self) -> Result<String, String> {
-        match &self.smallest {
-            Some((case, what)) => Err(format!(
-                "{} of {} cases differ, such as, in {what},\n  {}",
-                self.differing,
-                self.cases,
-                case.line()
-            )),
-            None if self.cases == 0 => Err("no case".to_string()),
-            None => Ok(format!("{} cases", self.cases)),
+        let shown = |(case, what): &(Case, _)| format!(", in {what},\n  {}", case.line());
+        self.cases.none(shown)?;
+        match self.cases.met {
+            0 => Err("no case".to_string()),
+            met => Ok(format!("{met} cases")),
         }
     }
 }
@@ -61,13 +51,13 @@ fn difference(case: &Case, taken: &Taken) -> Option<&'static str> {
     let (mut padding, mut answer) = (taken.before.padding.clone(), [BEFORE; 8]);
     // One that is not lent on each side.
     let mut structs = vec![POISON; room + 2];
-    let payload = taken.before.payload();
+    let payload = taken.before.payload.bytes();
     let status = samopute::decode_run(
         &words,
         payload,
         padding.bytes_mut(),
         &mut structs[1..=room],
-        six(&mut answer),
+        lent(&mut answer),
     );
     let (words, payload) = black_box((&words[..], payload));
     let parts = [

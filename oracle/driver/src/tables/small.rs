@@ -1,7 +1,8 @@
 //! Random accepted tables whose payloads often decode: mostly few fields, short texts, whole bytes and
 //! small sets.
+use super::accepted::any_field;
+use super::built_in::{bare, field};
 use crate::random::Random;
-use crate::tables::accepted::any_field;
 use model::numbers::Kind;
 use model::reading::FIXED_TEXT_MAX;
 use model::tables::{self, ELEMENTS_MAX, FIELDS_MAX, Field, Set, Table};
@@ -81,26 +82,15 @@ fn any_counter(whole: bool, random: &mut Random) -> Field {
         (true, _) => 8,
         (false, _) => 1 + random.up_to(9) as u32,
     };
-    Field {
-        kind: random.among(&[Kind::Number, Kind::Lookup]),
-        width: Some(width),
-        signed: false,
-        scale: None,
-    }
+    field(random.among(&[Kind::Number, Kind::Lookup]), width)
 }
 
 /// A StringLz, or a StringFix around the size from which on it may stop early.
 fn any_last_text(random: &mut Random) -> Field {
     let size = FIXED_TEXT_MAX - 1 + random.up_to(10);
-    let (kind, width) = match random.up_to(2) {
-        0 => (Kind::StringFix, Some(8 * size as u32)),
-        _ => (Kind::StringLz, None),
-    };
-    Field {
-        kind,
-        width,
-        signed: false,
-        scale: None,
+    match random.up_to(2) {
+        0 => field(Kind::StringFix, 8 * size as u32),
+        _ => bare(Kind::StringLz),
     }
 }
 
