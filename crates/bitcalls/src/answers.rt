@@ -1,60 +1,61 @@
-// The parts that answers are made of. As in `textio`, each function asks for the room of its longest
-// text and answers where the text ends.
-ghost use Prim.Native.Nat.{_+_, _≤_};
-ghost use lib.ListN.{length};
+// The parts that answers are made of.
+ghost use Rattle.text.specs.Sheet.{Puts};
+ghost use Rattle.bitcalls.specs.Text.{okText, partText, refusalText, movedText, writtenText};
 use bits::BitRefusal;
-use textio::put;
-use textio::put_bytes;
-use textio::put_number;
+use bits::Moved;
+use text::put_bytes;
+use text::put_number;
+use text::put_refused;
+use text::put_text;
 
 // A call was accepted: the cursor after it.
 pub(crate) fn put_ok(out: &mut [u8], at: usize, cursor: usize) -> usize
-    requires { ⌜ at + 23 ≤ length (now out) ⌝ }
-    ensures { λ r. ⌜ r ≤ at + 23 ⌝ }
+    ensures { λ r. ⌜ Puts (now (out .entry)) at (okText cursor) (now (out .exit)) r ⌝ }
 {
-    let a = put(out, at, b'o');
-    let b = put(out, a, b'k');
-    put_number(out, b, cursor)
+    let a = put_text(out, at, b"ok");
+    put_number(out, a, cursor)
 }
 
 // A space and the bytes of a part.
 pub(crate) fn put_part(out: &mut [u8], at: usize, s: &[u8]) -> usize
-    requires { ⌜ (length (now s) ≤ 256) × (at + 514 ≤ length (now out)) ⌝ }
-    ensures { λ r. ⌜ r ≤ at + 514 ⌝ }
+    ensures { λ r. ⌜ Puts (now (out .entry)) at (partText (now (s .entry))) (now (out .exit)) r ⌝ }
 {
-    let a = put(out, at, b' ');
+    let a = put_text(out, at, b" ");
     put_bytes(out, a, s)
-}
-
-// The buffer after a write, set off by a bar.
-pub(crate) fn put_buffer(out: &mut [u8], at: usize, s: &[u8]) -> usize
-    requires { ⌜ (length (now s) ≤ 256) × (at + 516 ≤ length (now out)) ⌝ }
-    ensures { λ r. ⌜ r ≤ at + 516 ⌝ }
-{
-    let a = put(out, at, b' ');
-    let b = put(out, a, b'|');
-    put_part(out, b, s)
-}
-
-// What a refusal carries at place i, if it carries that many values.
-fn put_carried(out: &mut [u8], at: usize, e: BitRefusal, i: usize) -> usize
-    requires { ⌜ at + 21 ≤ length (now out) ⌝ }
-    ensures { λ r. ⌜ r ≤ at + 21 ⌝ }
-{
-    if i < e.carried_count() {
-        return put_number(out, at, e.carried(i));
-    }
-    at
 }
 
 // A call was refused. No refusal of a bit call carries more than two values.
 pub(crate) fn put_refusal(out: &mut [u8], at: usize, e: BitRefusal) -> usize
-    requires { ⌜ at + 64 ≤ length (now out) ⌝ }
-    ensures { λ r. ⌜ r ≤ at + 64 ⌝ }
+    ensures { λ r. ⌜ Puts (now (out .entry)) at (refusalText e) (now (out .exit)) r ⌝ }
 {
-    let a = put(out, at, b'F');
     let number = e.number();
-    let b = put_number(out, a, number as usize);
-    let c = put_carried(out, b, e, 0);
-    put_carried(out, c, e, 1)
+    let first = e.carried(0);
+    let second = e.carried(1);
+    put_refused(
+        out,
+        at,
+        number as usize,
+        e.carried_count(),
+        first,
+        second,
+        0,
+    )
+}
+
+pub(crate) fn put_moved(m: Moved, out: &mut [u8], at: usize) -> usize
+    ensures { λ r. ⌜ Puts (now (out .entry)) at (movedText m) (now (out .exit)) r ⌝ }
+{
+    match m {
+        Moved::To { next } => put_ok(out, at, next.at.0),
+        Moved::Refused(e) => put_refusal(out, at, e),
+    }
+}
+
+// A call that writes: its answer, and the buffer after it, set off by a bar.
+pub(crate) fn put_written(m: Moved, s: &[u8], out: &mut [u8], at: usize) -> usize
+    ensures { λ r. ⌜ Puts (now (out .entry)) at (writtenText m (now (s .entry))) (now (out .exit)) r ⌝ }
+{
+    let a = put_moved(m, out, at);
+    let b = put_text(out, a, b" |");
+    put_part(out, b, s)
 }

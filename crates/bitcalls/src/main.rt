@@ -12,50 +12,39 @@
 //
 // Promise: any bytes may come, and any number of them; the memory used stays the same. A line that is
 // no call, or is over 1,024 bytes, is answered F 14. The last line may lack its newline.
+//
+// What is answered is specs/Answers.antt; that it does not depend on the chunks, and that no answer
+// waits for room forever, is proofs/Stream.antt. Here is only read and written.
 mod answers;
 mod names;
 mod reads;
 mod replies;
 mod writes;
 
-ghost use Prim.Native.Nat.{_≤_};
-ghost use mathlib.Core.Path.{_≡_};
-ghost use lib.ListN.{length};
-ghost use Rattle.textio.specs.Bounds.{Within};
-use textio::Lines;
+const NAME: [u8; 8] = *b"bitcalls";
 
 fn main() {
     let mut input = io::large_buffer();
     let mut line = [0u8; 1024];
-    let mut out = io::large_buffer();
-    run(&mut input, &mut line, &mut out);
+    let mut page = io::large_buffer();
+    run(&mut input, &mut line, &mut page);
 }
 
 // A proved loop has to end, and nothing says that the input does. So the loop counts its turns down,
 // from a number that no run uses up.
-fn run(input: &mut [u8], line: &mut [u8], out: &mut [u8])
-    requires { ⌜ (length (now input) ≡ 65536) × (length (now line) ≡ 1024) × (length (now out) ≡ 65536) ⌝ }
-{
+fn run(input: &mut [u8], line: &mut [u8], page: &mut [u8]) {
     let mut turns = u64::MAX;
     let mut at = textio::start();
-    while turns > 0 && at.is_open {
-        let next = textio::step(input, line, out, at);
-        at = answered(line, out, next);
+    let mut held = lines::nothing();
+    let mut waits = false;
+    while turns > 0 && at.open {
+        at = textio::fetch(&NAME, input, at);
+        let from = at.from;
+        let to = at.to;
+        let p = replies::pass(held, waits, line, &input[from..to], page, 0);
+        held = p.held;
+        waits = p.waits;
+        at = textio::store(&NAME, page, p.to, p.taken, at);
         turns -= 1;
     }
-    textio::finish(b"bitcalls", out, at);
-}
-
-// Answers the line, if it is whole.
-fn answered(line: &[u8], out: &mut [u8], at: Lines) -> Lines
-    requires { ⌜ (length (now line) ≡ 1024) × (length (now out) ≡ 65536) × (at .held ≤ 1024) ⌝ }
-    requires { ⌜ Within at ⌝ }
-    ensures { λ r. ⌜ (Within r) × (r .held ≤ 1024) ⌝ }
-{
-    if !at.is_whole {
-        return at;
-    }
-    let held = at.held;
-    let to = replies::answer_line(&line[0..held], out, at.waiting);
-    textio::next_line(out, to, at)
 }

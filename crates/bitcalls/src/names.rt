@@ -1,4 +1,11 @@
 // The calls by their names.
+ghost use mathlib.Core.Path.{_≡_};
+ghost use mathlib.Core.List.{[]};
+ghost use lib.ListN.{getD};
+ghost use Rattle.columns.specs.Parts.{space, partsOf};
+ghost use Rattle.bitcalls.specs.declared.names.Call.the-variants.{Unknown};
+ghost use Rattle.bitcalls.specs.Names.{same, placeIn, calls, callOf, spacesOf, countMax, largest};
+use columns::word;
 
 // How wide a number call is at the most.
 pub(crate) enum Width {
@@ -19,55 +26,95 @@ pub(crate) enum Call {
     Unknown,
 }
 
-pub(crate) fn call_of(name: &[u8]) -> Call {
-    if check::same(name, b"read_u64") {
-        return Call::Read(Width::W64);
-    }
-    if check::same(name, b"read_u32") {
-        return Call::Read(Width::W32);
-    }
-    if check::same(name, b"read_u16") {
-        return Call::Read(Width::W16);
-    }
-    if check::same(name, b"read_u8") {
-        return Call::Read(Width::W8);
-    }
-    if check::same(name, b"advance") {
-        return Call::Advance;
-    }
-    if check::same(name, b"read_slice") {
-        return Call::ReadSlice;
-    }
-    if check::same(name, b"bits_remaining") {
-        return Call::Remaining;
-    }
-    write_of(name)
+fn is(name: &[u8], text: &[u8]) -> bool
+    ensures { λ r. ⌜ r ≡ same (now (name .entry)) (now (text .entry)) ⌝ }
+{
+    check::same(name, text)
 }
 
-fn write_of(name: &[u8]) -> Call {
-    if check::same(name, b"write_u64") {
-        return Call::Write(Width::W64);
+// The place of a name among the words of a text; past them where it is none.
+fn place_in(name: &[u8], text: &[u8]) -> usize
+    ensures { λ r. ⌜ r ≡ placeIn (now (name .entry)) (partsOf space (now (text .entry))) ⌝ }
+{
+    let last = columns::marks(text, b' ');
+    let mut i = 0;
+    while i <= last {
+        if is(name, word(text, i)) {
+            return i;
+        }
+        i += 1;
     }
-    if check::same(name, b"write_u32") {
-        return Call::Write(Width::W32);
+    i
+}
+
+fn call_at(place: usize) -> Call
+    ensures { λ r. ⌜ r ≡ getD calls place Unknown ⌝ }
+{
+    match place {
+        0 => Call::Read(Width::W64),
+        1 => Call::Read(Width::W32),
+        2 => Call::Read(Width::W16),
+        3 => Call::Read(Width::W8),
+        4 => Call::Write(Width::W64),
+        5 => Call::Write(Width::W32),
+        6 => Call::Write(Width::W16),
+        7 => Call::Write(Width::W8),
+        8 => Call::Advance,
+        9 => Call::WriteAdvance,
+        10 => Call::ReadSlice,
+        11 => Call::WriteSlice,
+        12 => Call::Remaining,
+        _ => Call::Unknown,
     }
-    if check::same(name, b"write_u16") {
-        return Call::Write(Width::W16);
+}
+
+// The call that a line names, in its first field.
+pub(crate) fn call_of(line: &[u8]) -> Call
+    ensures { λ r. ⌜ r ≡ callOf (getD (partsOf space (now (line .entry))) 0 []) ⌝ }
+{
+    call_at(place_in(
+        word(line, 0),
+        b"read_u64 read_u32 read_u16 read_u8 write_u64 write_u32 write_u16 write_u8 advance write_advance read_slice write_slice bits_remaining",
+    ))
+}
+
+// How many spaces a line of the call has between its fields: only those that write bits or bytes have
+// a VALUE.
+pub(crate) fn spaces_of(call: Call) -> usize
+    ensures { λ r. ⌜ r ≡ spacesOf call ⌝ }
+{
+    match call {
+        Call::Write(_) => 4,
+        Call::WriteSlice => 4,
+        Call::Read(_) => 3,
+        Call::Advance => 3,
+        Call::ReadSlice => 3,
+        Call::WriteAdvance => 3,
+        Call::Remaining => 3,
+        Call::Unknown => 3,
     }
-    if check::same(name, b"write_u8") {
-        return Call::Write(Width::W8);
+}
+
+// The largest COUNT that a line of the call can have: a width has 32 bits.
+pub(crate) fn count_max(call: Call) -> usize
+    ensures { λ r. ⌜ r ≡ countMax call ⌝ }
+{
+    match call {
+        Call::ReadSlice => 0xffff_ffff_ffff_ffff,
+        Call::WriteSlice => 0xffff_ffff_ffff_ffff,
+        Call::Remaining => 0xffff_ffff_ffff_ffff,
+        Call::Read(_) => 0xffff_ffff,
+        Call::Advance => 0xffff_ffff,
+        Call::Write(_) => 0xffff_ffff,
+        Call::WriteAdvance => 0xffff_ffff,
+        Call::Unknown => 0xffff_ffff,
     }
-    if check::same(name, b"write_advance") {
-        return Call::WriteAdvance;
-    }
-    if check::same(name, b"write_slice") {
-        return Call::WriteSlice;
-    }
-    Call::Unknown
 }
 
 // The largest number that a call of this width takes.
-pub(crate) fn most(w: Width) -> u64 {
+pub(crate) fn most(w: Width) -> u64
+    ensures { λ r. ⌜ r ≡ largest w ⌝ }
+{
     match w {
         Width::W64 => 0xffff_ffff_ffff_ffff,
         Width::W32 => 0xffff_ffff,

@@ -1,32 +1,47 @@
-// The calls that read, and their answers. Each asks for room for the longest answer of all.
-ghost use Prim.Native.Nat.{_+_, _≤_};
+// The calls that read, and their answers.
+ghost use mathlib.Core.Path.{_≡_};
 ghost use lib.ListN.{length};
+ghost use Rattle.text.specs.Sheet.{Puts};
+ghost use Rattle.bits.specs.Calls.{readOf, advanceOf, readSliceOf};
+ghost use Rattle.bitcalls.specs.Names.{widest};
+ghost use Rattle.bitcalls.specs.Text.{readText, movedText, sliceText, remainingText};
+use crate::answers::put_moved;
 use crate::answers::put_ok;
 use crate::answers::put_part;
 use crate::answers::put_refusal;
 use crate::names::Width;
 use bits::ByteCount;
 use bits::Cursor;
-use bits::Moved;
 use bits::ReadSlice;
 use bits::ReadU8;
 use bits::ReadU16;
 use bits::ReadU32;
 use bits::ReadU64;
-use textio::put_malformed;
-use textio::put_number;
-use textio::put_value;
-use textio::wide;
+use text::put_malformed;
+use text::put_number;
+use text::put_value;
 
-fn of32(x: u32) -> u64 {
+fn of32(x: u32) -> u64
+    ensures { λ r. ⌜ r ≡ x ⌝ }
+{
     x as u64
 }
 
-fn of16(x: u16) -> u64 {
+fn of16(x: u16) -> u64
+    ensures { λ r. ⌜ r ≡ x ⌝ }
+{
     x as u64
 }
 
-fn read_u32(c: Cursor, s: &[u8], n: u32) -> ReadU64 {
+fn of8(x: u8) -> u64
+    ensures { λ r. ⌜ r ≡ x ⌝ }
+{
+    x as u64
+}
+
+fn read_u32(c: Cursor, s: &[u8], n: u32) -> ReadU64
+    ensures { λ r. ⌜ r ≡ readOf (now (s .entry)) c n 32 ⌝ }
+{
     match c.read_u32(s, n) {
         ReadU32::Got { value, next } => ReadU64::Got {
             value: of32(value),
@@ -36,7 +51,9 @@ fn read_u32(c: Cursor, s: &[u8], n: u32) -> ReadU64 {
     }
 }
 
-fn read_u16(c: Cursor, s: &[u8], n: u32) -> ReadU64 {
+fn read_u16(c: Cursor, s: &[u8], n: u32) -> ReadU64
+    ensures { λ r. ⌜ r ≡ readOf (now (s .entry)) c n 16 ⌝ }
+{
     match c.read_u16(s, n) {
         ReadU16::Got { value, next } => ReadU64::Got {
             value: of16(value),
@@ -46,10 +63,12 @@ fn read_u16(c: Cursor, s: &[u8], n: u32) -> ReadU64 {
     }
 }
 
-fn read_u8(c: Cursor, s: &[u8], n: u32) -> ReadU64 {
+fn read_u8(c: Cursor, s: &[u8], n: u32) -> ReadU64
+    ensures { λ r. ⌜ r ≡ readOf (now (s .entry)) c n 8 ⌝ }
+{
     match c.read_u8(s, n) {
         ReadU8::Got { value, next } => ReadU64::Got {
-            value: wide(value),
+            value: of8(value),
             next,
         },
         ReadU8::Refused(e) => ReadU64::Refused(e),
@@ -57,7 +76,9 @@ fn read_u8(c: Cursor, s: &[u8], n: u32) -> ReadU64 {
 }
 
 // The answers of the four widths in one type.
-fn read_width(w: Width, c: Cursor, s: &[u8], n: u32) -> ReadU64 {
+fn read_width(w: Width, c: Cursor, s: &[u8], n: u32) -> ReadU64
+    ensures { λ r. ⌜ r ≡ readOf (now (s .entry)) c n (widest w) ⌝ }
+{
     match w {
         Width::W64 => c.read_u64(s, n),
         Width::W32 => read_u32(c, s, n),
@@ -66,41 +87,30 @@ fn read_width(w: Width, c: Cursor, s: &[u8], n: u32) -> ReadU64 {
     }
 }
 
-pub(crate) fn read_number(w: Width, c: Cursor, s: &[u8], n: u32, out: &mut [u8], at: usize) -> usize
-    requires { ⌜ at + 1000 ≤ length (now out) ⌝ }
-    ensures { λ r. ⌜ r ≤ at + 1000 ⌝ }
+pub(crate) fn put_read(w: Width, c: Cursor, s: &[u8], n: u32, out: &mut [u8], at: usize) -> usize
+    ensures { λ r. ⌜ Puts (now (out .entry)) at (readText (readOf (now (s .entry)) c n (widest w))) (now (out .exit)) r ⌝ }
 {
     match read_width(w, c, s, n) {
         ReadU64::Got { value, next } => {
-            let to = next.at.0;
-            let a = put_ok(out, at, to);
+            let a = put_ok(out, at, next.at.0);
             put_value(out, a, value)
         }
         ReadU64::Refused(e) => put_refusal(out, at, e),
     }
 }
 
-pub(crate) fn advance(c: Cursor, s: &[u8], n: u32, out: &mut [u8], at: usize) -> usize
-    requires { ⌜ at + 1000 ≤ length (now out) ⌝ }
-    ensures { λ r. ⌜ r ≤ at + 1000 ⌝ }
+pub(crate) fn put_advance(c: Cursor, s: &[u8], n: u32, out: &mut [u8], at: usize) -> usize
+    ensures { λ r. ⌜ Puts (now (out .entry)) at (movedText (advanceOf (length (now (s .entry))) c n 64)) (now (out .exit)) r ⌝ }
 {
-    match c.advance(s, n) {
-        Moved::To { next } => {
-            let to = next.at.0;
-            put_ok(out, at, to)
-        }
-        Moved::Refused(e) => put_refusal(out, at, e),
-    }
+    put_moved(c.advance(s, n), out, at)
 }
 
-pub(crate) fn read_slice(c: Cursor, s: &[u8], n: usize, out: &mut [u8], at: usize) -> usize
-    requires { ⌜ (length (now s) ≤ 256) × (at + 1000 ≤ length (now out)) ⌝ }
-    ensures { λ r. ⌜ r ≤ at + 1000 ⌝ }
+pub(crate) fn put_slice(c: Cursor, s: &[u8], n: usize, out: &mut [u8], at: usize) -> usize
+    ensures { λ r. ⌜ Puts (now (out .entry)) at (sliceText (now (s .entry)) (readSliceOf (length (now (s .entry))) c n)) (now (out .exit)) r ⌝ }
 {
     match c.read_slice(s, ByteCount(n)) {
         ReadSlice::Got { part, next } => {
-            let to = next.at.0;
-            let a = put_ok(out, at, to);
+            let a = put_ok(out, at, next.at.0);
             put_part(out, a, part.bytes(s))
         }
         ReadSlice::Refused(e) => put_refusal(out, at, e),
@@ -108,15 +118,13 @@ pub(crate) fn read_slice(c: Cursor, s: &[u8], n: usize, out: &mut [u8], at: usiz
 }
 
 // `count` says nothing in this call, and has to be 0.
-pub(crate) fn remaining(c: Cursor, s: &[u8], count: usize, out: &mut [u8], at: usize) -> usize
-    requires { ⌜ at + 1000 ≤ length (now out) ⌝ }
-    ensures { λ r. ⌜ r ≤ at + 1000 ⌝ }
+pub(crate) fn put_remaining(c: Cursor, s: &[u8], count: usize, out: &mut [u8], at: usize) -> usize
+    ensures { λ r. ⌜ Puts (now (out .entry)) at (remainingText c (now (s .entry)) count) (now (out .exit)) r ⌝ }
 {
     if count != 0 {
         return put_malformed(out, at);
     }
-    let here = c.bit_cursor();
     let left = c.bits_remaining(s);
-    let a = put_ok(out, at, here.0);
+    let a = put_ok(out, at, c.at.0);
     put_number(out, a, left.0)
 }

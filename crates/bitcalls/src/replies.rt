@@ -1,129 +1,67 @@
-// A line's fields, and which call they go to. A line that lacks the form is answered as malformed.
-ghost use Prim.Native.Nat.{_+_, _≤_};
-ghost use lib.ListN.{length};
-use crate::names;
+// A line's fields, and which call they go to; and a chunk of input, line by line.
+ghost use Prim.Native.Nat.{_≤_};
+ghost use mathlib.Core.Path.{_≡_};
+ghost use mathlib.Core.Bool.{_&&_};
+ghost use mathlib.Core.List.{[]};
+ghost use lib.ListN.{getD};
+ghost use Rattle.bits.specs.Calls.{cursorAt};
+ghost use Rattle.text.specs.Sheet.{Puts};
+ghost use Rattle.columns.specs.Parts.{space, partsOf};
+ghost use Rattle.columns.specs.Numbers.{decimalIn};
+ghost use Rattle.bitcalls.specs.Answers.{countedText, formText, answerText, answered};
+ghost use Rattle.bitcalls.specs.Contracts.{Passes};
 use crate::names::Call;
-use crate::reads;
-use crate::writes;
+use crate::names::call_of;
+use crate::names::count_max;
+use crate::names::spaces_of;
+use crate::reads::put_advance;
+use crate::reads::put_read;
+use crate::reads::put_remaining;
+use crate::reads::put_slice;
+use crate::writes::put_write;
+use crate::writes::put_write_advance;
+use crate::writes::put_write_slice;
 use bits::BitPos;
 use bits::Cursor;
-use textio::put_malformed;
+use columns::Number;
+use columns::word;
+use text::put;
+use text::put_malformed;
 
-// The four fields that every line has. The buffer's bytes are `len`; its field ends at `end`.
-struct Head {
-    good: bool,
-    call: Call,
-    cursor: u64,
-    count: u64,
-    len: usize,
-    end: usize,
-}
-
-fn no_head() -> Head
-    ensures { λ r. ⌜ (r .len ≤ 0) × (r .end ≤ 0) ⌝ }
+fn place(n: u64) -> usize
+    ensures { λ r. ⌜ r ≡ n ⌝ }
 {
-    Head {
-        good: false,
-        call: Call::Unknown,
-        cursor: 0,
-        count: 0,
-        len: 0,
-        end: 0,
-    }
-}
-
-fn head_of(s: &[u8], buffer: &mut [u8]) -> Head
-    requires { ⌜ 256 ≤ length (now buffer) ⌝ }
-    ensures { λ r. ⌜ (r .len ≤ 256) × (r .end ≤ length (now (s .entry))) ⌝ }
-{
-    let a = textio::field_end(s, 0);
-    if a == s.len() {
-        return no_head();
-    }
-    let after_a = a + 1;
-    let b = textio::field_end(s, after_a);
-    if b == s.len() {
-        return no_head();
-    }
-    let after_b = b + 1;
-    let c = textio::field_end(s, after_b);
-    if c == s.len() {
-        return no_head();
-    }
-    let after_c = c + 1;
-    let end = textio::field_end(s, after_c);
-    let call = names::call_of(&s[0..a]);
-    let cursor = textio::decimal(&s[after_a..b]);
-    let count = textio::decimal(&s[after_b..c]);
-    let run = textio::bytes(&s[after_c..end], buffer);
-    Head {
-        good: cursor.good & count.good & run.good,
-        call,
-        cursor: cursor.value,
-        count: count.value,
-        len: run.len,
-        end,
-    }
-}
-
-fn place(n: u64) -> usize {
     n as usize
 }
 
-// The answer to a line, without its newline.
-pub(crate) fn answer_line(line: &[u8], out: &mut [u8], at: usize) -> usize
-    requires { ⌜ at + 1000 ≤ length (now out) ⌝ }
-    ensures { λ r. ⌜ r ≤ at + 1000 ⌝ }
+fn all(a: bool, b: bool, c: bool) -> bool
+    ensures { λ r. ⌜ r ≡ (a && b && c) ⌝ }
 {
-    let mut buffer = [0u8; 256];
-    let head = head_of(line, &mut buffer);
-    let n = head.len;
-    let end = head.end;
-    if !head.good {
-        return put_malformed(out, at);
-    }
-    let call = head.call;
-    let c = Cursor::new().seek(BitPos(place(head.cursor)));
-    let count = place(head.count);
-    if end == line.len() {
-        return reply(call, c, &mut buffer[0..n], count, out, at);
-    }
-    let text = end + 1;
-    reply_with(call, c, &mut buffer[0..n], count, &line[text..], out, at)
+    a & b & c
 }
 
-// A line with no VALUE field.
-fn reply(call: Call, c: Cursor, s: &mut [u8], count: usize, out: &mut [u8], at: usize) -> usize
-    requires { ⌜ (length (now s) ≤ 256) × (at + 1000 ≤ length (now out)) ⌝ }
-    ensures { λ r. ⌜ r ≤ at + 1000 ⌝ }
+// The field at place i, in decimal.
+fn number(line: &[u8], i: usize) -> Number
+    ensures { λ r. ⌜ r ≡ decimalIn (getD (partsOf space (now (line .entry))) i []) ⌝ }
 {
-    match call {
-        Call::ReadSlice => reads::read_slice(c, s, count, out, at),
-        Call::Remaining => reads::remaining(c, s, count, out, at),
-        _ => {
-            if 0xffff_ffff < count {
-                return put_malformed(out, at);
-            }
-            reply_narrow(call, c, s, count as u32, out, at)
-        }
-    }
+    columns::decimal(word(line, i))
 }
 
-// A line with no VALUE field whose count is a width.
-fn reply_narrow(call: Call, c: Cursor, s: &mut [u8], n: u32, out: &mut [u8], at: usize) -> usize
-    requires { ⌜ (length (now s) ≤ 256) × (at + 1000 ≤ length (now out)) ⌝ }
-    ensures { λ r. ⌜ r ≤ at + 1000 ⌝ }
+fn cursor_of(n: u64) -> Cursor
+    ensures { λ r. ⌜ r ≡ cursorAt n ⌝ }
 {
-    match call {
-        Call::Read(w) => reads::read_number(w, c, s, n, out, at),
-        Call::Advance => reads::advance(c, s, n, out, at),
-        Call::WriteAdvance => writes::write_advance(c, s, n, out, at),
-        _ => put_malformed(out, at),
-    }
+    Cursor::new().seek(BitPos(place(n)))
 }
 
-// A line with a VALUE field, `text`.
-fn reply_with(
+// n itself where it has 32 bits.
+fn narrow(n: usize) -> u32
+    ensures { λ r. ⌜ (n ≤ 0xffffffff → r ≡ n) ⌝ }
+{
+    (n % 0x1_0000_0000) as u32
+}
+
+// A call by its fields; `text` is the VALUE, if there is one.
+fn put_call(
     call: Call,
     c: Cursor,
     s: &mut [u8],
@@ -132,17 +70,78 @@ fn reply_with(
     out: &mut [u8],
     at: usize,
 ) -> usize
-    requires { ⌜ (length (now s) ≤ 256) × (at + 1000 ≤ length (now out)) ⌝ }
-    ensures { λ r. ⌜ r ≤ at + 1000 ⌝ }
+    ensures { λ r. ⌜ Puts (now (out .entry)) at (countedText call c (now (s .entry)) count (now (text .entry))) (now (out .exit)) r ⌝ }
 {
-    match call {
-        Call::WriteSlice => writes::write_slice(c, s, count, text, out, at),
-        Call::Write(w) => {
-            if 0xffff_ffff < count {
-                return put_malformed(out, at);
-            }
-            writes::write_number(w, c, s, count as u32, text, out, at)
-        }
-        _ => put_malformed(out, at),
+    if count_max(call) < count {
+        return put_malformed(out, at);
     }
+    let n = narrow(count);
+    match call {
+        Call::Read(w) => put_read(w, c, s, n, out, at),
+        Call::Advance => put_advance(c, s, n, out, at),
+        Call::ReadSlice => put_slice(c, s, count, out, at),
+        Call::Write(w) => put_write(w, c, s, n, text, out, at),
+        Call::WriteAdvance => put_write_advance(c, s, n, out, at),
+        Call::WriteSlice => put_write_slice(c, s, count, text, out, at),
+        Call::Remaining => put_remaining(c, s, count, out, at),
+        Call::Unknown => put_malformed(out, at),
+    }
+}
+
+// A line, with what the fields that every line has were read as.
+fn put_form(line: &[u8], c: Cursor, s: &mut [u8], count: usize, out: &mut [u8], at: usize) -> usize
+    ensures { λ r. ⌜ Puts (now (out .entry)) at (formText (now (line .entry)) c (now (s .entry)) count) (now (out .exit)) r ⌝ }
+{
+    let call = call_of(line);
+    if columns::marks(line, b' ') != spaces_of(call) {
+        return put_malformed(out, at);
+    }
+    put_call(call, c, s, count, word(line, 4), out, at)
+}
+
+// The answer to a line, without its newline.
+fn put_reply(line: &[u8], out: &mut [u8], at: usize) -> usize
+    ensures { λ r. ⌜ Puts (now (out .entry)) at (answerText (now (line .entry))) (now (out .exit)) r ⌝ }
+{
+    let mut buffer = [0u8; 256];
+    let cursor = number(line, 1);
+    let count = number(line, 2);
+    let run = columns::bytes(word(line, 3), &mut buffer);
+    let n = run.len;
+    if !all(cursor.good, count.good, run.good) {
+        return put_malformed(out, at);
+    }
+    let c = cursor_of(cursor.value);
+    put_form(line, c, &mut buffer[0..n], place(count.value), out, at)
+}
+
+// .. with it.
+fn put_answer(line: &[u8], out: &mut [u8], at: usize) -> usize
+    ensures { λ r. ⌜ Puts (now (out .entry)) at (answered (now (line .entry))) (now (out .exit)) r ⌝ }
+{
+    let to = put_reply(line, out, at);
+    put(out, to, b'\n')
+}
+
+// One call: the lines that end in a chunk are answered, the one that waits first.
+pub(crate) fn pass(
+    held: lines::Held,
+    waits: bool,
+    line: &mut [u8],
+    input: &[u8],
+    out: &mut [u8],
+    at: usize,
+) -> lines::Passed
+    ensures { λ r. ⌜ Passes r (now (line .exit)) (now (out .exit)) held waits (now (line .entry)) (now (input .entry)) (now (out .entry)) at ⌝ }
+{
+    let mut p = lines::begin(held, waits, at);
+    while !p.over {
+        p = lines::next(p, line, input);
+        if p.waits {
+            let known = p.held;
+            let to = put_answer(lines::line_of(known, line), out, p.to);
+            p = lines::answered(p, to, out.len());
+        }
+    }
+    p
 }

@@ -1,30 +1,41 @@
-// The calls that write, and their answers, which end with the buffer as the call left it. Each asks
-// for room for the longest answer of all.
-ghost use Prim.Native.Nat.{_+_, _≤_};
+// The calls that write, and their answers, which end with the buffer as the call left it.
+ghost use mathlib.Core.Path.{_≡_};
+ghost use Prim.Native.Nat.{_≤_};
 ghost use lib.ListN.{length};
-use crate::answers::put_buffer;
-use crate::answers::put_ok;
-use crate::answers::put_refusal;
-use crate::names;
+ghost use Rattle.text.specs.Sheet.{Puts};
+ghost use Rattle.bits.specs.Calls.{advanceOf, writtenOf};
+ghost use Rattle.bitcalls.specs.Names.{widest, largest};
+ghost use Rattle.bitcalls.specs.Text.{writtenText, writeText, writeSliceText};
+use crate::answers::put_written;
 use crate::names::Width;
+use crate::names::most;
 use bits::Cursor;
 use bits::Moved;
-use textio::put_malformed;
+use text::put_malformed;
 
-// The low bits of v: v itself where `names::most` allows it.
-fn low32(v: u64) -> u32 {
+// The low bits of v: v itself where `most` allows it.
+fn low32(v: u64) -> u32
+    ensures { λ r. ⌜ (v ≤ 0xffffffff → r ≡ v) ⌝ }
+{
     (v % 0x1_0000_0000) as u32
 }
 
-fn low16(v: u64) -> u16 {
+fn low16(v: u64) -> u16
+    ensures { λ r. ⌜ (v ≤ 0xffff → r ≡ v) ⌝ }
+{
     (v % 0x1_0000) as u16
 }
 
-fn low8(v: u64) -> u8 {
+fn low8(v: u64) -> u8
+    ensures { λ r. ⌜ (v ≤ 0xff → r ≡ v) ⌝ }
+{
     (v % 0x100) as u8
 }
 
-fn write_width(w: Width, c: Cursor, s: &mut [u8], v: u64, n: u32) -> Moved {
+fn write_width(w: Width, c: Cursor, s: &mut [u8], v: u64, n: u32) -> Moved
+    ensures { λ r. ⌜ r ≡ advanceOf (length (now (s .entry))) c n (widest w) ⌝ }
+    ensures { λ r. ⌜ (v ≤ largest w → now (s .exit) ≡ writtenOf (now (s .entry)) c n (widest w) v) ⌝ }
+{
     match w {
         Width::W64 => c.write_u64(s, v, n),
         Width::W32 => c.write_u32(s, low32(v), n),
@@ -33,21 +44,8 @@ fn write_width(w: Width, c: Cursor, s: &mut [u8], v: u64, n: u32) -> Moved {
     }
 }
 
-fn put_moved(m: Moved, out: &mut [u8], at: usize) -> usize
-    requires { ⌜ at + 64 ≤ length (now out) ⌝ }
-    ensures { λ r. ⌜ r ≤ at + 64 ⌝ }
-{
-    match m {
-        Moved::To { next } => {
-            let to = next.at.0;
-            put_ok(out, at, to)
-        }
-        Moved::Refused(e) => put_refusal(out, at, e),
-    }
-}
-
 // `text` is the VALUE field: a number that fits the call's width.
-pub(crate) fn write_number(
+pub(crate) fn put_write(
     w: Width,
     c: Cursor,
     s: &mut [u8],
@@ -56,33 +54,29 @@ pub(crate) fn write_number(
     out: &mut [u8],
     at: usize,
 ) -> usize
-    requires { ⌜ (length (now s) ≤ 256) × (at + 1000 ≤ length (now out)) ⌝ }
-    ensures { λ r. ⌜ r ≤ at + 1000 ⌝ }
+    ensures { λ r. ⌜ Puts (now (out .entry)) at (writeText w c (now (s .entry)) n (now (text .entry))) (now (out .exit)) r ⌝ }
 {
-    let value = textio::hex(text);
+    let value = columns::hex(text);
     let v = value.value;
     if !value.good {
         return put_malformed(out, at);
     }
-    if names::most(w) < v {
+    if most(w) < v {
         return put_malformed(out, at);
     }
     let m = write_width(w, c, s, v, n);
-    let a = put_moved(m, out, at);
-    put_buffer(out, a, s)
+    put_written(m, s, out, at)
 }
 
-pub(crate) fn write_advance(c: Cursor, s: &mut [u8], n: u32, out: &mut [u8], at: usize) -> usize
-    requires { ⌜ (length (now s) ≤ 256) × (at + 1000 ≤ length (now out)) ⌝ }
-    ensures { λ r. ⌜ r ≤ at + 1000 ⌝ }
+pub(crate) fn put_write_advance(c: Cursor, s: &mut [u8], n: u32, out: &mut [u8], at: usize) -> usize
+    ensures { λ r. ⌜ Puts (now (out .entry)) at (writtenText (advanceOf (length (now (s .entry))) c n 64) (now (s .entry))) (now (out .exit)) r ⌝ }
 {
     let m = c.write_advance(s, n);
-    let a = put_moved(m, out, at);
-    put_buffer(out, a, s)
+    put_written(m, s, out, at)
 }
 
 // `text` is the VALUE field: the source's bytes, `count` of them.
-pub(crate) fn write_slice(
+pub(crate) fn put_write_slice(
     c: Cursor,
     s: &mut [u8],
     count: usize,
@@ -90,11 +84,10 @@ pub(crate) fn write_slice(
     out: &mut [u8],
     at: usize,
 ) -> usize
-    requires { ⌜ (length (now s) ≤ 256) × (at + 1000 ≤ length (now out)) ⌝ }
-    ensures { λ r. ⌜ r ≤ at + 1000 ⌝ }
+    ensures { λ r. ⌜ Puts (now (out .entry)) at (writeSliceText c (now (s .entry)) count (now (text .entry))) (now (out .exit)) r ⌝ }
 {
     let mut source = [0u8; 256];
-    let run = textio::bytes(text, &mut source);
+    let run = columns::bytes(text, &mut source);
     let n = run.len;
     if !run.good {
         return put_malformed(out, at);
@@ -103,6 +96,5 @@ pub(crate) fn write_slice(
         return put_malformed(out, at);
     }
     let m = c.write_slice(s, &source[0..n]);
-    let a = put_moved(m, out, at);
-    put_buffer(out, a, s)
+    put_written(m, s, out, at)
 }

@@ -1,10 +1,10 @@
--- The cases of document 01 that are marked *, all of them, in its order and words: each is computed from the
--- definitions that the contracts cite. Assumes nothing.
-use mathlib.Core.Path.{_≡_, refl}
-use mathlib.Core.List.{List, [], _∷_}
+-- The cases of document 01 that are marked *, all of them, in its order and words, and then what the printing program prints for its worked line and for each
+-- refusal: each is computed from the definitions that the contracts cite. Assumes nothing.
+use mathlib.Core.Path.{_≡_, refl, _∙_}
+use mathlib.Core.List.{List, [], _∷_, _++_}
 use Prim.Native.Nat.{ℕ, _+_, _*_}
 use Rattle.bits.specs.Bits.{sumBits, putBit, fromBits}
-use Rattle.bits.specs.declared.BitRefusal.the-variants.{OutOfBytes}
+use Rattle.bits.specs.declared.BitRefusal.the-variants.{TooLongForType, OutOfBits, OutOfBytes, NonAlignedBit, BufferTooLong}
 use Rattle.bits.specs.declared.Moved.the-variants as moved
 use Rattle.bits.specs.declared.ReadU64.the-variants as read64
 use Rattle.bits.specs.declared.ReadSlice.the-variants as slice
@@ -26,15 +26,28 @@ use Rattle.descriptor.specs.declared.Encoding.{Encoding}
 use Rattle.descriptor.specs.declared.Encoding.the-variants as encoding
 use Rattle.descriptor.specs.declared.Availability.the-variants.{NotAvailable}
 use Rattle.tables.specs.Table.{Table, tableOf}
-use Rattle.tables.specs.Rules.{declaredBits}
-use Rattle.fields.specs.declared.DecodeRefusal.the-variants.{RepetitionsExceedCapacity}
+use Rattle.tables.specs.Rules.{inSets, declaredBits}
+use Rattle.tables.specs.Check.{foundFrom}
+use Rattle.tables.specs.declared.TableRule.the-variants as rule
+use Rattle.walking.specs.Runs.{guard, after, andThen, times}
+use Rattle.walking.specs.Walk.{check, lift, placeFrom, elementAt, groupAt, fieldBy, fieldAt, walkFrom}
+use Rattle.fields.specs.declared.DecodeRefusal.the-variants.{BitReaderError, InvalidDataLength, RepetitionsExceedCapacity, WrongLength, TableRefused, NoRoom}
 use Rattle.fields.specs.declared.FieldRead.{FieldRead}
 use Rattle.fields.specs.declared.FieldRead.the-variants.{Got}
 use Rattle.fields.specs.declared.Raw.the-variants as raw
 use Rattle.fields.specs.Payload.{payloadOf}
 use Rattle.fields.specs.Content.{textAt, fieldReadOf, availabilityOf}
 use Rattle.reading.specs.declared.GroupCount.the-variants as group
-use Rattle.reading.specs.Groups.{groupCountOf}
+use Rattle.reading.specs.Groups.{groupCountOf, notedTo}
+use Rattle.reading.specs.Decode.{readings}
+use Rattle.hexadecimal.specs.Digits.{allDigits, spelledFrom, pairsOf}
+use Rattle.text.specs.Digits.{higher, fixed}
+use Rattle.text.specs.Refusals.{carriedTexts}
+use Rattle.lines.specs.Machine.{upToNewline, textFrom, isOpen}
+use Rattle.lines.proofs.Whole.{line-printed, open-printed}
+use Rattle.frame_lines.specs.Lines.{readingLine, frameLine, endLine, refusalLine, unknownLine}
+use Rattle.frame_lines.specs.Decode.{readingLines}
+use Rattle.printing.specs.Text.{answered, printed}
 
 -- Bit calls.
 
@@ -139,3 +152,61 @@ lz :
     × (read StringLz (0x02 ∷ 0x41 ∷ 0x42 ∷ 0x07 ∷ []) ≡ textOf 24 1 2 encoding.Absent)
 unfolding sumBits
 lz = (refl, refl)
+
+-- The printing program.
+
+-- "`01F8022AFC5C3DC098FFFF`"
+abbrev line : List ℕ
+line = 48 ∷ 49 ∷ 70 ∷ 56 ∷ 48 ∷ 50 ∷ 50 ∷ 65 ∷ 70 ∷ 67 ∷ 53 ∷ 67 ∷ 51 ∷ 68 ∷ 67 ∷ 48 ∷ 57 ∷ 56 ∷ 70 ∷ 70 ∷ 70 ∷ 70 ∷ []
+
+-- "prints exactly": the six lines
+abbrev lines : List ℕ
+lines = 80 ∷ 32 ∷ 48 ∷ 49 ∷ 70 ∷ 56 ∷ 48 ∷ 50 ∷ 32 ∷ 56 ∷ 10 ∷ 82 ∷ 32 ∷ 48 ∷ 32 ∷ 45 ∷ 32 ∷ 48 ∷ 32 ∷ 56 ∷ 32 ∷ 65 ∷ 32 ∷ 50 ∷ 65 ∷ 10 ∷ 82 ∷ 32 ∷ 49 ∷ 32 ∷ 45 ∷ 32 ∷ 56 ∷ 32 ∷ 50 ∷ 32 ∷ 65 ∷ 32 ∷ 48 ∷ 10 ∷ 82 ∷ 32 ∷ 51 ∷ 32 ∷ 45 ∷ 32 ∷ 49 ∷ 54 ∷ 32 ∷ 49 ∷ 54 ∷ 32 ∷ 65 ∷ 32 ∷ 51 ∷ 68 ∷ 53 ∷ 67 ∷ 10 ∷ 82 ∷ 32 ∷ 52 ∷ 32 ∷ 45 ∷ 32 ∷ 51 ∷ 50 ∷ 32 ∷ 49 ∷ 54 ∷ 32 ∷ 65 ∷ 32 ∷ 57 ∷ 56 ∷ 67 ∷ 48 ∷ 10 ∷ 69 ∷ 32 ∷ 54 ∷ 52 ∷ 10 ∷ []
+
+worked : answered line ≡ lines
+unfolding readingLine frameLine endLine readingLines higher fixed allDigits spelledFrom pairsOf readings notedTo sumBits guard after andThen times check lift placeFrom elementAt groupAt fieldBy fieldAt walkFrom inSets declaredBits foundFrom ofBits ofFields odd le lt eq
+worked = refl
+
+-- the line by itself, with its newline and without
+worked-line : (printed (line ++ 10 ∷ []) ≡ lines) × (printed line ≡ lines)
+unfolding upToNewline isOpen
+worked-line = (line-printed answered line refl refl ∙ worked, open-printed answered line refl refl ∙ worked)
+
+-- F 14, of a small letter and of an empty line
+small-letter : printed (48 ∷ 49 ∷ 102 ∷ 56 ∷ 48 ∷ 50 ∷ 10 ∷ 10 ∷ [])
+    ≡ 70 ∷ 32 ∷ 49 ∷ 52 ∷ 10 ∷ 70 ∷ 32 ∷ 49 ∷ 52 ∷ 10 ∷ []
+unfolding textFrom isOpen readingLine frameLine endLine refusalLine unknownLine readingLines carriedTexts higher fixed allDigits spelledFrom pairsOf readings notedTo sumBits guard after andThen times check lift placeFrom elementAt groupAt fieldBy fieldAt walkFrom inSets declaredBits foundFrom ofBits ofFields odd le lt eq
+small-letter = refl
+
+-- F 15 01F803
+unknown-pgn : printed (48 ∷ 49 ∷ 70 ∷ 56 ∷ 48 ∷ 51 ∷ 10 ∷ [])
+    ≡ 70 ∷ 32 ∷ 49 ∷ 53 ∷ 32 ∷ 48 ∷ 49 ∷ 70 ∷ 56 ∷ 48 ∷ 51 ∷ 10 ∷ []
+unfolding textFrom isOpen readingLine frameLine endLine refusalLine unknownLine readingLines carriedTexts higher fixed allDigits spelledFrom pairsOf readings notedTo sumBits guard after andThen times check lift placeFrom elementAt groupAt fieldBy fieldAt walkFrom inSets declaredBits foundFrom ofBits ofFields odd le lt eq
+unknown-pgn = refl
+
+-- a number cut short: F 4 1
+cut-short : printed (48 ∷ 49 ∷ 70 ∷ 56 ∷ 48 ∷ 50 ∷ 50 ∷ 65 ∷ 10 ∷ [])
+    ≡ 80 ∷ 32 ∷ 48 ∷ 49 ∷ 70 ∷ 56 ∷ 48 ∷ 50 ∷ 32 ∷ 49 ∷ 10 ∷ 82 ∷ 32 ∷ 48 ∷ 32 ∷ 45 ∷ 32 ∷ 48 ∷ 32 ∷ 56 ∷ 32 ∷ 65 ∷ 32 ∷ 50 ∷ 65 ∷ 10 ∷ 70 ∷ 32 ∷ 52 ∷ 32 ∷ 49 ∷ 10 ∷ []
+unfolding textFrom isOpen readingLine frameLine endLine refusalLine unknownLine readingLines carriedTexts higher fixed allDigits spelledFrom pairsOf readings notedTo sumBits guard after andThen times check lift placeFrom elementAt groupAt fieldBy fieldAt walkFrom inSets declaredBits foundFrom ofBits ofFields odd le lt eq
+cut-short = refl
+
+-- a Reserved field cut short: F 2 5 16 0
+reserved-short : printed (48 ∷ 49 ∷ 70 ∷ 56 ∷ 48 ∷ 50 ∷ 50 ∷ 65 ∷ 70 ∷ 67 ∷ 53 ∷ 67 ∷ 51 ∷ 68 ∷ 67 ∷ 48 ∷ 57 ∷ 56 ∷ 10 ∷ [])
+    ≡ 80 ∷ 32 ∷ 48 ∷ 49 ∷ 70 ∷ 56 ∷ 48 ∷ 50 ∷ 32 ∷ 54 ∷ 10 ∷ 82 ∷ 32 ∷ 48 ∷ 32 ∷ 45 ∷ 32 ∷ 48 ∷ 32 ∷ 56 ∷ 32 ∷ 65 ∷ 32 ∷ 50 ∷ 65 ∷ 10 ∷ 82 ∷ 32 ∷ 49 ∷ 32 ∷ 45 ∷ 32 ∷ 56 ∷ 32 ∷ 50 ∷ 32 ∷ 65 ∷ 32 ∷ 48 ∷ 10 ∷ 82 ∷ 32 ∷ 51 ∷ 32 ∷ 45 ∷ 32 ∷ 49 ∷ 54 ∷ 32 ∷ 49 ∷ 54 ∷ 32 ∷ 65 ∷ 32 ∷ 51 ∷ 68 ∷ 53 ∷ 67 ∷ 10 ∷ 82 ∷ 32 ∷ 52 ∷ 32 ∷ 45 ∷ 32 ∷ 51 ∷ 50 ∷ 32 ∷ 49 ∷ 54 ∷ 32 ∷ 65 ∷ 32 ∷ 57 ∷ 56 ∷ 67 ∷ 48 ∷ 10 ∷ 70 ∷ 32 ∷ 50 ∷ 32 ∷ 53 ∷ 32 ∷ 49 ∷ 54 ∷ 32 ∷ 48 ∷ 10 ∷ []
+unfolding textFrom isOpen readingLine frameLine endLine refusalLine unknownLine readingLines carriedTexts higher fixed allDigits spelledFrom pairsOf readings notedTo sumBits guard after andThen times check lift placeFrom elementAt groupAt fieldBy fieldAt walkFrom inSets declaredBits foundFrom ofBits ofFields odd le lt eq
+reserved-short = refl
+
+-- one line for each refusal of a decode, 1 and 6 too, which none gives
+refusal-lines :
+    (refusalLine (BitReaderError 3 (TooLongForType 64 65)) ≡ 70 ∷ 32 ∷ 49 ∷ 32 ∷ 51 ∷ 32 ∷ 54 ∷ 52 ∷ 32 ∷ 54 ∷ 53 ∷ 10 ∷ [])
+    × (refusalLine (BitReaderError 5 (OutOfBits (bits 16) (bits 0))) ≡ 70 ∷ 32 ∷ 50 ∷ 32 ∷ 53 ∷ 32 ∷ 49 ∷ 54 ∷ 32 ∷ 48 ∷ 10 ∷ [])
+    × (refusalLine (BitReaderError 1 (OutOfBytes (bytes 9) (bytes 8))) ≡ 70 ∷ 32 ∷ 50 ∷ 32 ∷ 49 ∷ 32 ∷ 57 ∷ 32 ∷ 56 ∷ 10 ∷ [])
+    × (refusalLine (BitReaderError 1 (NonAlignedBit (bits 12))) ≡ 70 ∷ 32 ∷ 51 ∷ 32 ∷ 49 ∷ 32 ∷ 49 ∷ 50 ∷ 10 ∷ [])
+    × (refusalLine (InvalidDataLength 3) ≡ 70 ∷ 32 ∷ 52 ∷ 32 ∷ 51 ∷ 10 ∷ [])
+    × (refusalLine (RepetitionsExceedCapacity 0 46 45) ≡ 70 ∷ 32 ∷ 53 ∷ 32 ∷ 48 ∷ 32 ∷ 52 ∷ 54 ∷ 32 ∷ 52 ∷ 53 ∷ 10 ∷ [])
+    × (refusalLine (BitReaderError 0 (BufferTooLong (bytes 65537))) ≡ 70 ∷ 32 ∷ 54 ∷ 32 ∷ 48 ∷ 32 ∷ 54 ∷ 53 ∷ 53 ∷ 51 ∷ 55 ∷ 10 ∷ [])
+    × (refusalLine (WrongLength (bytes 224)) ≡ 70 ∷ 32 ∷ 55 ∷ 32 ∷ 50 ∷ 50 ∷ 52 ∷ 10 ∷ [])
+    × (refusalLine (TableRefused rule.C 0) ≡ 70 ∷ 32 ∷ 56 ∷ 32 ∷ 99 ∷ 32 ∷ 48 ∷ 10 ∷ [])
+    × (refusalLine (NoRoom 17) ≡ 70 ∷ 32 ∷ 57 ∷ 32 ∷ 49 ∷ 55 ∷ 10 ∷ [])
+unfolding refusalLine carriedTexts higher
+refusal-lines = (refl, refl, refl, refl, refl, refl, refl, refl, refl, refl)

@@ -1,138 +1,196 @@
-// What a line asks for.
-ghost use Prim.Native.Nat.{_≤_};
-ghost use mathlib.Core.Path.{_≡_};
-ghost use lib.ListN.{length};
+// The orders, line by line: the encode that a line asks for, and what came of it.
+use crate::answers::put_encoded;
+use crate::answers::put_message;
 use crate::entries::list_values;
-use textio::Number;
-use textio::Run;
-use textio::field_end;
+use bits::least;
+use bits::sum;
+use columns::Number;
+use columns::field_end;
+use columns::part;
+use columns::word;
+use lines::Held;
+use lines::Passed;
+use messages::Known;
+use messages::Message;
+use text::put;
+use writing::Encoded;
 
 const PGN_DIGITS: usize = 6;
 
 const PGN_MOST: u64 = 0xff_ffff;
 
-const SIZE_MAX: u64 = 300;
+// A table's buffer has at most so many bytes.
+const SIZE_MAX: usize = 300;
 
-// A message by its PGN, or a table in words and the bytes of a buffer; and how many bytes the values'
-// records and the texts take.
-pub(crate) struct Order {
-    pub(crate) good: bool,
-    pub(crate) is_table: bool,
-    pub(crate) pgn: u32,
-    pub(crate) words: usize,
-    pub(crate) size: usize,
-    pub(crate) values: usize,
-    pub(crate) text: usize,
+// What a table's buffer holds before the call.
+const UNTOUCHED: u8 = 0xa5;
+
+// Answers the lines that end in a chunk of the input, as far as the page has room.
+pub(crate) fn pass(
+    held: Held,
+    waits: bool,
+    line: &mut [u8],
+    values: &mut [u8],
+    lent: &mut [u8],
+    input: &[u8],
+    out: &mut [u8],
+    at: usize,
+) -> Passed {
+    let mut turns = u64::MAX;
+    let mut p = lines::begin(held, waits, at);
+    while turns > 0 && !p.over {
+        turns -= 1;
+        p = lines::next(p, line, input);
+        if p.waits {
+            let known = p.held;
+            let to = put_answer(lines::line_of(known, line), values, lent, out, p.to);
+            p = lines::answered(p, to, out.len());
+        }
+    }
+    p
 }
 
-fn no_order() -> Order
-    ensures { λ r. ⌜ (r .words ≡ 0) × (r .size ≡ 0) × (r .values ≡ 0) × (r .text ≡ 0) ⌝ }
-{
-    Order {
-        good: false,
-        is_table: false,
-        pgn: 0,
-        words: 0,
-        size: 0,
-        values: 0,
-        text: 0,
+fn put_answer(line: &[u8], values: &mut [u8], lent: &mut [u8], out: &mut [u8], at: usize) -> usize {
+    let listed = list_values(values_of(line), values, lent);
+    if !listed.good {
+        return malformed(out, at);
     }
+    put_order(
+        line,
+        part(values, 0, listed.bytes),
+        part(lent, 0, listed.text),
+        out,
+        at,
+    )
 }
 
-// Six digits.
-fn pgn_of(s: &[u8]) -> Number
-    ensures { λ r. ⌜ r .value ≤ 16777215 ⌝ }
-{
-    let n = textio::hex(s);
-    if PGN_MOST < n.value {
-        return Number {
-            good: false,
-            value: 0,
-        };
+fn malformed(out: &mut [u8], at: usize) -> usize {
+    let a = text::put_malformed(out, at);
+    put(out, a, b'\n')
+}
+
+// Whether the line names a table.
+fn is_table(line: &[u8]) -> bool {
+    check::same(word(line, 0), b"T")
+}
+
+// The values of a line, each with a space before it: they come after one field, or after three.
+fn values_of(line: &[u8]) -> &[u8] {
+    let first = field_end(line, 0);
+    if is_table(line) {
+        let third = next_end(line, next_end(line, first));
+        return part(line, third, line.len());
     }
+    part(line, first, line.len())
+}
+
+// Where the field after one that ends at `end` ends.
+fn next_end(line: &[u8], end: usize) -> usize {
+    field_end(line, sum(end, 1))
+}
+
+fn put_order(line: &[u8], values: &[u8], lent: &[u8], out: &mut [u8], at: usize) -> usize {
+    if is_table(line) {
+        return put_by_table(line, values, lent, out, at);
+    }
+    put_by_pgn(pgn_of(word(line, 0)), values, lent, out, at)
+}
+
+// A PGN, of six digits.
+fn pgn_of(s: &[u8]) -> Number {
+    let n = columns::hex(s);
     Number {
         good: n.good & (s.len() == PGN_DIGITS),
         value: n.value,
     }
 }
 
-// A number up to 300.
-fn size_of(s: &[u8]) -> Run
-    ensures { λ r. ⌜ r .len ≤ 300 ⌝ }
-{
-    let n = textio::decimal(s);
-    if SIZE_MAX < n.value {
-        return Run {
-            good: false,
-            len: 0,
-        };
+fn put_by_pgn(pgn: Number, values: &[u8], lent: &[u8], out: &mut [u8], at: usize) -> usize {
+    if !pgn.good {
+        return malformed(out, at);
     }
-    Run {
-        good: n.good,
-        len: n.value as usize,
+    if PGN_MOST < pgn.value {
+        return malformed(out, at);
+    }
+    put_known(pgn.value as u32, values, lent, out, at)
+}
+
+// A built-in message, or 15.
+fn put_known(pgn: u32, values: &[u8], lent: &[u8], out: &mut [u8], at: usize) -> usize {
+    match messages::message_of(pgn) {
+        Known::Message(message) => {
+            let mut payload = [0u8; tables::PAYLOAD_MAX];
+            let encoded = encode(message, values, lent, &mut payload);
+            put_message(out, at, pgn, &payload, encoded)
+        }
+        Known::Unknown => frame_lines::put_unknown(out, at, pgn),
     }
 }
 
-// A message; its PGN ends at `first`.
-fn message_order(line: &[u8], first: usize, values: &mut [u8], lent: &mut [u8]) -> Order
-    requires { ⌜ (first ≤ length (now line)) × (length (now values) ≡ 48000) ⌝ }
-    ensures { λ r. ⌜ (r .words ≡ 0) × (r .size ≡ 0) × (r .values ≤ 48000) × (r .text ≤ length (now (lent .entry))) ⌝ }
-{
-    let pgn = pgn_of(&line[0..first]);
-    let listed = list_values(line, first, values, lent);
-    Order {
-        good: pgn.good & listed.good,
-        is_table: false,
-        pgn: pgn.value as u32,
-        words: 0,
-        size: 0,
-        values: listed.bytes,
-        text: listed.text,
+// Values by a message's table.
+fn encode(message: Message, values: &[u8], lent: &[u8], payload: &mut [u8]) -> Encoded {
+    match message {
+        Message::M129025 => encode_by(&messages::TABLE_129025, values, lent, payload),
+        Message::M129026 => encode_by(&messages::TABLE_129026, values, lent, payload),
+        Message::M129029 => encode_by(&messages::TABLE_129029, values, lent, payload),
+        Message::M130900 => encode_by(&messages::TABLE_130900, values, lent, payload),
     }
 }
 
-// A table, whose words end at `second`.
-fn table_order(
-    line: &[u8],
-    second: usize,
-    words: &mut [u64],
-    values: &mut [u8],
-    lent: &mut [u8],
-) -> Order
-    requires { ⌜ (2 ≤ second) × (second ≤ length (now line)) × (length (now words) ≡ 200) × (length (now values) ≡ 48000) ⌝ }
-    ensures { λ r. ⌜ (r .words ≤ 200) × (r .size ≤ 300) × (r .values ≤ 48000) × (r .text ≤ length (now (lent .entry))) ⌝ }
-{
-    if second == line.len() {
-        return no_order();
-    }
-    let from = second + 1;
-    let third = field_end(line, from);
-    let table = textio::words(&line[2..second], b',', words);
-    let size = size_of(&line[from..third]);
-    let listed = list_values(line, third, values, lent);
-    Order {
-        good: table.good & size.good & listed.good,
-        is_table: true,
-        pgn: 0,
-        words: table.len,
-        size: size.len,
-        values: listed.bytes,
-        text: listed.text,
-    }
+// The encode, with no contract: nothing here rests on what it answers, and each call of one with a
+// contract makes its caller's proof longer.
+fn encode_by(words: &[u64], values: &[u8], lent: &[u8], buffer: &mut [u8]) -> Encoded {
+    writing::encode(words, values, lent, buffer)
 }
 
-// The order of a line, with its words, records and texts in the lent buffers.
-pub(crate) fn order_of(line: &[u8], words: &mut [u64], values: &mut [u8], lent: &mut [u8]) -> Order
-    requires { ⌜ (length (now words) ≡ 200) × (length (now values) ≡ 48000) ⌝ }
-    ensures { λ r. ⌜ (r .words ≤ 200) × (r .size ≤ 300) × (r .values ≤ 48000) × (r .text ≤ length (now (lent .entry))) ⌝ }
-{
-    let first = field_end(line, 0);
-    if line.len() < 2 {
-        return no_order();
+// Any table, and a buffer.
+fn put_by_table(line: &[u8], values: &[u8], lent: &[u8], out: &mut [u8], at: usize) -> usize {
+    let mut words = [0u64; 200];
+    let table = columns::words(word(line, 1), b',', &mut words);
+    let size = columns::decimal(word(line, 2));
+    if !table.good || !size.good {
+        return malformed(out, at);
     }
-    if first == 1 && line[0] == b'T' {
-        let second = field_end(line, 2);
-        return table_order(line, second, words, values, lent);
+    put_sized(
+        first_words(&words, table.len),
+        size.value as usize,
+        values,
+        lent,
+        out,
+        at,
+    )
+}
+
+// The first n words, as far as there are so many.
+fn first_words(words: &[u64], n: usize) -> &[u64] {
+    let end = least(n, words.len());
+    &words[0..end]
+}
+
+// A buffer of so many bytes, if they are not too many.
+fn put_sized(
+    words: &[u64],
+    size: usize,
+    values: &[u8],
+    lent: &[u8],
+    out: &mut [u8],
+    at: usize,
+) -> usize {
+    if SIZE_MAX < size {
+        return malformed(out, at);
     }
-    message_order(line, first, values, lent)
+    let mut buffer = [UNTOUCHED; SIZE_MAX];
+    put_buffered(words, values, lent, &mut buffer[0..size], out, at)
+}
+
+fn put_buffered(
+    words: &[u64],
+    values: &[u8],
+    lent: &[u8],
+    buffer: &mut [u8],
+    out: &mut [u8],
+    at: usize,
+) -> usize {
+    let encoded = encode_by(words, values, lent, buffer);
+    put_encoded(out, at, encoded, buffer)
 }

@@ -4,7 +4,5 @@ mod Counting
 pub mod Exact
 -- what is known of a line so far, with what is to come, is what is known in the end
 mod Feeding
--- no turn of a built-in message gives 9 in the printing program
-mod Room
--- every contract of a call that puts no text leaves one answer and one content of each lent buffer
+-- every contract leaves one answer and one content of each lent buffer
 mod OneAnswer

@@ -1,8 +1,7 @@
--- Two answers allowed for an input are equal, and so are two contents of what is lent: of the contract of each public call that puts no
--- text, as the source states it, `Post`. Assumes nothing.
+-- Two answers allowed for an input are equal, and so are two contents of what is lent: of the contract of each public call as the source
+-- states it, `Post`. Assumes nothing.
 use denote.Ref.{now}
 use Rattle.one_answer.proofs.Fixes.{Fixes, fixed}
-use Rattle.frames.proofs.walks.is_last.Reads as is-last
 use Rattle.frames.proofs.digest.empty_line.Reads as empty-line
 use Rattle.frames.proofs.digest.feed.Reads as feed
 use Rattle.frames.proofs.lookup.frame_of.Reads as frame-of
@@ -21,9 +20,6 @@ same-feed = fixed (λ κs a x s p. p .1)
 
 one-frame-of : Fixes frame-of.Post (λ κs x s. x)
 one-frame-of = fixed (λ κs a x s p. p)
-
-one-is-last : Fixes is-last.Post (λ κs x s. x)
-one-is-last = fixed (λ κs a x s p. p)
 
 one-number : Fixes number.Post (λ κs x s. x)
 one-number = fixed (λ κs a x s p. p)

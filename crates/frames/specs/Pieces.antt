@@ -4,7 +4,8 @@ use mathlib.Core.Path.{_≡_}
 use Prim.Native.Nat.{ℕ, _≤_}
 use mathlib.Core.List.{List, [], _∷_, _++_}
 use lib.ListN.{length, take, drop}
-use Rattle.frames.specs.Lines.{parsed, lineOf, upToNewline}
+use Rattle.lines.specs.Machine.{upToNewline}
+use Rattle.frames.specs.Lines.{parsed, lineOf}
 use Rattle.frames.specs.Digest.{fedTo, bufferAfter}
 use Rattle.frames.specs.Frames.{frameOf, frameBy}
 use Rattle.frames.specs.declared.Line.{Line}

@@ -1,33 +1,20 @@
-// The printing program's work, on slices: document 01, the end of "Cases". Lines of hexadecimal come
-// in, one frame a line, and lines of text go out.
+// A line of the printing program, as its bytes come: document 01, the end of "Cases", "one frame a
+// line".
 //
 // Promise: `feed` takes the bytes of a line as they come, in pieces of any length, and keeps of them
 // what specs/Digest.antt says; `pieces-read` of proofs/Exact.antt shows that this is, for every line
 // under 2^64 bytes, what specs/Lines.antt says a line is, and that the lent buffer holds the first of
 // its payload bytes.
 // So lines of any length are read right in the memory of one short frame. `frame_of` answers 14, 15 or
-// the message, as these definitions have it. A function that puts text asks for the room of one line
-// and says where its text ends; which text it is no contract says.
-mod answers;
+// the message, as these definitions have it. No call has a `requires`.
 mod digest;
 mod lookup;
 mod refusals;
-mod walks;
 
-pub use crate::answers::put_head;
-pub use crate::answers::put_no_frame;
-pub use crate::answers::put_pgn;
-pub use crate::answers::put_place;
-pub use crate::answers::put_refusal;
-pub use crate::answers::put_refused;
 pub use crate::digest::empty_line;
 pub use crate::digest::feed;
 pub use crate::lookup::frame_of;
-pub use crate::walks::is_last;
-pub use crate::walks::put_first;
-pub use crate::walks::put_more;
 use messages::Message;
-use reading::Walk;
 
 // What is known of a line by its bytes so far: how many digits they are, the number in the first six
 // and the digit that came last. Once a byte is no digit the line is bad, and nothing else counts.
@@ -58,12 +45,4 @@ pub enum Frame {
     },
     // 14
     Malformed,
-}
-
-// How far the answer to a frame has been put: its text ends at `to`, and unless it is done it goes on
-// from `walk`.
-pub struct Printing {
-    pub to: usize,
-    pub is_done: bool,
-    pub walk: Walk,
 }

@@ -1,37 +1,31 @@
-// The lines of an answer, without their newlines. As in `textio`, each function asks for the room of
-// its longest text and answers where the text ends.
-ghost use Prim.Native.Nat.{_+_, _≤_};
-ghost use lib.ListN.{length};
+// The lines of an answer.
+use columns::part;
 use descriptor::Encoding;
 use descriptor::PgnBytes;
 use descriptor::PgnValue;
 use fields::Raw;
+use frame_lines::put_head;
 use reading::Decoded;
 use reading::Reading;
-use textio::put;
-use textio::put_hex;
-use textio::put_number;
-use textio::put_pairs;
-use textio::put_text;
-use textio::put_value;
+use text::put;
+use text::put_bytes;
+use text::put_hex;
+use text::put_number;
+use text::put_pairs;
+use text::put_text;
+use text::put_value;
 
 // What the padding run holds where no call has written.
 pub(crate) const UNTOUCHED: u8 = 0xa5;
 
-fn put_raw(out: &mut [u8], at: usize, raw: Raw) -> usize
-    requires { ⌜ at + 16 ≤ length (now out) ⌝ }
-    ensures { λ r. ⌜ r ≤ at + 16 ⌝ }
-{
+fn put_raw(out: &mut [u8], at: usize, raw: Raw) -> usize {
     match raw {
         Raw::Number(n) => put_hex(out, at, n),
         Raw::Absent => put(out, at, b'-'),
     }
 }
 
-fn put_kind(out: &mut [u8], at: usize, value: PgnValue) -> usize
-    requires { ⌜ at + 7 ≤ length (now out) ⌝ }
-    ensures { λ r. ⌜ r ≤ at + 7 ⌝ }
-{
+fn put_kind(out: &mut [u8], at: usize, value: PgnValue) -> usize {
     match value {
         PgnValue::U64(_) => put_text(out, at, b" U64"),
         PgnValue::U32(_) => put_text(out, at, b" U32"),
@@ -47,10 +41,7 @@ fn put_kind(out: &mut [u8], at: usize, value: PgnValue) -> usize
     }
 }
 
-fn put_encoding(out: &mut [u8], at: usize, e: Encoding) -> usize
-    requires { ⌜ at + 3 ≤ length (now out) ⌝ }
-    ensures { λ r. ⌜ r ≤ at + 3 ⌝ }
-{
+fn put_encoding(out: &mut [u8], at: usize, e: Encoding) -> usize {
     match e {
         Encoding::Byte(b) => {
             let a = put(out, at, b' ');
@@ -60,57 +51,45 @@ fn put_encoding(out: &mut [u8], at: usize, e: Encoding) -> usize
     }
 }
 
-fn put_place(out: &mut [u8], at: usize, b: PgnBytes) -> usize
-    requires { ⌜ at + 44 ≤ length (now out) ⌝ }
-    ensures { λ r. ⌜ r ≤ at + 44 ⌝ }
-{
+fn put_place(out: &mut [u8], at: usize, b: PgnBytes) -> usize {
     let encoding = b.encoding;
-    let a = frames::put_place(out, at, b);
+    let a = frame_lines::put_place(out, at, b);
     put_encoding(out, a, encoding)
 }
 
 // The value: a number by its 64 bits, text and bytes by their place.
-fn put_content(out: &mut [u8], at: usize, value: PgnValue) -> usize
-    requires { ⌜ at + 44 ≤ length (now out) ⌝ }
-    ensures { λ r. ⌜ r ≤ at + 44 ⌝ }
-{
+fn put_content(out: &mut [u8], at: usize, value: PgnValue) -> usize {
     match value {
         PgnValue::Bytes(b) => put_place(out, at, b),
         _ => put_value(out, at, numbers::word_of(value)),
     }
 }
 
-pub(crate) fn put_reading(out: &mut [u8], at: usize, r: Reading) -> usize
-    requires { ⌜ at + 1000 ≤ length (now out) ⌝ }
-    ensures { λ r. ⌜ r ≤ at + 1000 ⌝ }
-{
+pub(crate) fn put_reading(out: &mut [u8], at: usize, r: Reading) -> usize {
     let raw = r.raw;
     let value = r.value;
-    let a = frames::put_head(out, at, r);
+    let a = put_head(out, at, r);
     let b = put_raw(out, a, raw);
     let c = put_kind(out, b, value);
-    put_content(out, c, value)
+    let d = put_content(out, c, value);
+    put(out, d, b'\n')
 }
 
 // The end and the count, or the refusal.
-pub(crate) fn put_decoded(out: &mut [u8], at: usize, d: Decoded) -> usize
-    requires { ⌜ at + 1000 ≤ length (now out) ⌝ }
-    ensures { λ r. ⌜ r ≤ at + 1000 ⌝ }
-{
+pub(crate) fn put_decoded(out: &mut [u8], at: usize, d: Decoded) -> usize {
     match d {
         Decoded::Ended { end, count } => {
             let a = put(out, at, b'E');
             let b = put_number(out, a, end.0);
-            put_number(out, b, count)
+            let c = put_number(out, b, count);
+            put(out, c, b'\n')
         }
-        Decoded::Refused { refusal, count: _ } => frames::put_refusal(out, at, refusal),
+        Decoded::Refused { refusal, count: _ } => frame_lines::put_refusal(out, at, refusal),
     }
 }
 
 // How many bytes there are up to the last that is not A5.
-fn touched(run: &[u8]) -> usize
-    ensures { λ r. ⌜ r ≤ length (now (run .entry)) ⌝ }
-{
+fn touched(run: &[u8]) -> usize {
     let mut n = run.len();
     while 0 < n {
         if run[n - 1] != UNTOUCHED {
@@ -122,14 +101,8 @@ fn touched(run: &[u8]) -> usize
 }
 
 // The padding run.
-pub(crate) fn put_run(out: &mut [u8], at: usize, run: &[u8]) -> usize
-    requires { ⌜ (length (now run) ≤ 300) × (at + 1000 ≤ length (now out)) ⌝ }
-    ensures { λ r. ⌜ r ≤ at + 1000 ⌝ }
-{
-    let n = touched(run);
-    if n == 0 {
-        return put_text(out, at, b"D -");
-    }
+pub(crate) fn put_run(out: &mut [u8], at: usize, run: &[u8]) -> usize {
     let a = put_text(out, at, b"D ");
-    put_pairs(out, a, &run[0..n])
+    let b = put_bytes(out, a, part(run, 0, touched(run)));
+    put(out, b, b'\n')
 }

@@ -25,43 +25,34 @@ mod answers;
 mod cases;
 mod replies;
 
-ghost use Prim.Native.Nat.{_≤_};
-ghost use mathlib.Core.Path.{_≡_};
-ghost use lib.ListN.{length};
-ghost use Rattle.textio.specs.Bounds.{Within};
-use textio::Lines;
+const NAME: [u8; 9] = *b"readcalls";
+
+// A page holds the longest answer. A payload of at most 223 bytes has 1,785 readings at the most, and
+// the line of each at most 156 bytes; the end and the padding run take less than 700.
+const PAGE: usize = 524288;
 
 fn main() {
     let mut input = io::large_buffer();
     let mut line = [0u8; 8192];
-    let mut out = io::large_buffer();
-    run(&mut input, &mut line, &mut out);
+    let mut page = [0u8; PAGE];
+    run(&mut input, &mut line, &mut page);
 }
 
 // A proved loop has to end, and nothing says that the input does. So the loop counts its turns down,
 // from a number that no run uses up.
-fn run(input: &mut [u8], line: &mut [u8], out: &mut [u8])
-    requires { ⌜ (length (now input) ≡ 65536) × (length (now line) ≡ 8192) × (length (now out) ≡ 65536) ⌝ }
-{
+fn run(input: &mut [u8], line: &mut [u8], page: &mut [u8]) {
     let mut turns = u64::MAX;
     let mut at = textio::start();
-    while turns > 0 && at.is_open {
-        let next = textio::step(input, line, out, at);
-        at = answered(line, out, next);
+    let mut held = lines::nothing();
+    let mut waits = false;
+    while turns > 0 && at.open {
+        at = textio::fetch(&NAME, input, at);
+        let from = at.from;
+        let to = at.to;
+        let p = replies::pass(held, waits, line, &input[from..to], page, 0);
+        held = p.held;
+        waits = p.waits;
+        at = textio::store(&NAME, page, p.to, p.taken, at);
         turns -= 1;
     }
-    textio::finish(b"readcalls", out, at);
-}
-
-// Answers the line, if it is whole.
-fn answered(line: &[u8], out: &mut [u8], at: Lines) -> Lines
-    requires { ⌜ (length (now line) ≡ 8192) × (length (now out) ≡ 65536) × (at .held ≤ 8192) ⌝ }
-    requires { ⌜ Within at ⌝ }
-    ensures { λ r. ⌜ (Within r) × (r .held ≤ 8192) ⌝ }
-{
-    if !at.is_whole {
-        return at;
-    }
-    let held = at.held;
-    replies::answer_line(&line[0..held], out, at)
 }

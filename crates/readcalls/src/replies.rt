@@ -1,181 +1,179 @@
-// A case: the decode turn by turn, then in one call, and what both came to.
-ghost use Prim.Native.Nat.{_≤_};
-ghost use mathlib.Core.Path.{_≡_};
-ghost use lib.ListN.{length};
-ghost use Rattle.textio.specs.Bounds.{Within};
+// The cases, line by line: the decode turn by turn, then in one call, and what both came to.
 use crate::answers;
 use crate::answers::UNTOUCHED;
-use crate::cases;
+use crate::cases::PADDING_MAX;
+use crate::cases::case_of;
+use bits::least;
+use columns::part;
 use fields::DecodeRefusal;
-use frames::is_last;
+use lines::Held;
+use lines::Passed;
 use reading::Answer;
+use reading::Came;
 use reading::Decoded;
 use reading::Prepared;
-use reading::Progress;
-use textio::Lines;
-use textio::next_line;
+use text::put;
+use text::put_text;
 
-// What the turns came to, and where the program stands after the readings' lines.
+// What the turns came to, and the place after the readings' lines.
 struct Turned {
-    at: Lines,
+    to: usize,
     decoded: Decoded,
 }
 
-// Answers a line.
-pub(crate) fn answer_line(line: &[u8], out: &mut [u8], at: Lines) -> Lines
-    requires { ⌜ length (now out) ≡ 65536 ⌝ }
-    requires { ⌜ Within at ⌝ }
-    ensures { λ r. ⌜ (Within r) × (r .held ≡ 0) ⌝ }
-{
-    let mut words = [0u64; 200];
-    let mut payload = [0u8; 512];
-    let case = cases::case_of(line, &mut words, &mut payload);
-    let w = case.words;
-    let n = case.bytes;
-    let p = case.padding;
-    if !case.good {
-        let to = textio::put_malformed(out, at.waiting);
-        return next_line(out, to, at);
+// Answers the lines that end in a chunk of the input, as far as the page has room.
+pub(crate) fn pass(
+    held: Held,
+    waits: bool,
+    line: &mut [u8],
+    input: &[u8],
+    out: &mut [u8],
+    at: usize,
+) -> Passed {
+    let mut turns = u64::MAX;
+    let mut p = lines::begin(held, waits, at);
+    while turns > 0 && !p.over {
+        turns -= 1;
+        p = lines::next(p, line, input);
+        if p.waits {
+            let known = p.held;
+            let to = put_answer(lines::line_of(known, line), out, p.to);
+            p = lines::answered(p, to, out.len());
+        }
     }
-    let mut first = [UNTOUCHED; 300];
-    let mut second = [UNTOUCHED; 300];
-    replay(
-        &words[0..w],
-        &payload[0..n],
-        &mut first[0..p],
-        &mut second[0..p],
+    p
+}
+
+fn put_answer(line: &[u8], out: &mut [u8], at: usize) -> usize {
+    let mut words = [0u64; 200];
+    let mut payload = [0u8; 300];
+    let case = case_of(line, &mut words, &mut payload);
+    if !case.good {
+        let to = text::put_malformed(out, at);
+        return put(out, to, b'\n');
+    }
+    put_replay(
+        first_words(&words, case.words),
+        part(&payload, 0, case.bytes),
+        case.padding,
         case.room,
         out,
         at,
     )
 }
 
+// The first n words, as far as there are so many.
+fn first_words(words: &[u64], n: usize) -> &[u64] {
+    let end = least(n, words.len());
+    &words[0..end]
+}
+
 // Both ways through a payload, each with a padding run of its own.
-fn replay(
+fn put_replay(
+    words: &[u64],
+    received: &[u8],
+    padding: usize,
+    room: usize,
+    out: &mut [u8],
+    at: usize,
+) -> usize {
+    let mut first = [UNTOUCHED; PADDING_MAX];
+    let mut second = [UNTOUCHED; PADDING_MAX];
+    let n = least(padding, PADDING_MAX);
+    put_both(
+        words,
+        received,
+        &mut first[0..n],
+        &mut second[0..n],
+        room,
+        out,
+        at,
+    )
+}
+
+fn put_both(
     words: &[u64],
     received: &[u8],
     first: &mut [u8],
     second: &mut [u8],
     room: usize,
     out: &mut [u8],
-    at: Lines,
-) -> Lines
-    requires { ⌜ (length (now out) ≡ 65536) × (length (now first) ≤ 300) ⌝ }
-    requires { ⌜ Within at ⌝ }
-    ensures { λ r. ⌜ (Within r) × (r .held ≡ 0) ⌝ }
-{
-    let turned = by_turns(words, received, first, room, out, at);
-    let whole = reading::for_each_field(words, received, second, room);
+    at: usize,
+) -> usize {
+    let turned = put_turns(words, received, first, room, out, at);
     let decoded = turned.decoded;
-    let same = is_same(decoded, whole) && check::same(first, second);
-    let a = turned.at;
-    told(decoded, first, same, out, a)
-}
-
-// The lines after the readings.
-fn told(decoded: Decoded, run: &[u8], same: bool, out: &mut [u8], at: Lines) -> Lines
-    requires { ⌜ (length (now out) ≡ 65536) × (length (now run) ≤ 300) ⌝ }
-    requires { ⌜ Within at ⌝ }
-    ensures { λ r. ⌜ (Within r) × (r .held ≡ 0) ⌝ }
-{
-    let to = answers::put_decoded(out, at.waiting, decoded);
-    let a = next_line(out, to, at);
-    let end = answers::put_run(out, a.waiting, run);
-    let b = next_line(out, end, a);
-    put_difference(same, out, b)
+    let whole = reading::for_each_field(words, received, second, room);
+    let a = answers::put_decoded(out, turned.to, decoded);
+    let b = answers::put_run(out, a, first);
+    put_difference(
+        out,
+        b,
+        is_same(decoded, whole) && check::same(first, second),
+    )
 }
 
 // The line that never comes.
-fn put_difference(same: bool, out: &mut [u8], at: Lines) -> Lines
-    requires { ⌜ (length (now out) ≡ 65536) × (at .held ≡ 0) ⌝ }
-    requires { ⌜ Within at ⌝ }
-    ensures { λ r. ⌜ (Within r) × (r .held ≡ 0) ⌝ }
-{
+fn put_difference(out: &mut [u8], at: usize, same: bool) -> usize {
     if same {
         return at;
     }
-    let to = textio::put(out, at.waiting, b'X');
-    next_line(out, to, at)
+    put_text(out, at, b"X\n")
 }
 
-fn by_turns(
+fn put_turns(
     words: &[u64],
     received: &[u8],
     padded: &mut [u8],
     room: usize,
     out: &mut [u8],
-    at: Lines,
-) -> Turned
-    requires { ⌜ length (now out) ≡ 65536 ⌝ }
-    requires { ⌜ Within at ⌝ }
-    ensures { λ r. ⌜ Within (r .at) ⌝ }
-{
+    at: usize,
+) -> Turned {
     match reading::prepare(words, received, padded) {
         Prepared::Ready => {
             let s = reading::pad_to_min_length(words, received, padded);
-            walked(words, s, room, out, at)
+            put_walk(words, s, room, out, at)
         }
         Prepared::Refused(refusal) => Turned {
-            at,
+            to: at,
             decoded: Decoded::Refused { refusal, count: 0 },
         },
     }
 }
 
 // The walk, with a line for each reading. It counts its turns down, as `run` does.
-fn walked(words: &[u64], s: &[u8], room: usize, out: &mut [u8], at: Lines) -> Turned
-    requires { ⌜ length (now out) ≡ 65536 ⌝ }
-    requires { ⌜ Within at ⌝ }
-    ensures { λ r. ⌜ Within (r .at) ⌝ }
-{
+fn put_walk(words: &[u64], s: &[u8], room: usize, out: &mut [u8], at: usize) -> Turned {
     let mut turns = u64::MAX;
     let mut walk = reading::start();
-    let mut now = at;
+    let mut to = at;
     while turns > 0 {
+        turns -= 1;
         let next = reading::next_field(words, s, room, walk);
         let answer = next.answer;
         walk = next.walk;
-        let progress = walk.progress;
-        now = put_answer(out, answer, now);
-        if is_last(answer) {
-            return Turned {
-                at: now,
-                decoded: decoded_of(answer, progress),
-            };
+        to = put_turn(out, to, answer);
+        match reading::came_to(next) {
+            Came::On => {}
+            Came::To(decoded) => {
+                return Turned { to, decoded };
+            }
         }
-        turns -= 1;
     }
     let progress = walk.progress;
+    let end = progress.at;
+    let count = progress.made;
     Turned {
-        at: now,
-        decoded: decoded_of(Answer::Ended, progress),
+        to,
+        decoded: Decoded::Ended { end, count },
     }
 }
 
-fn put_answer(out: &mut [u8], answer: Answer, at: Lines) -> Lines
-    requires { ⌜ length (now out) ≡ 65536 ⌝ }
-    requires { ⌜ Within at ⌝ }
-    ensures { λ r. ⌜ Within r ⌝ }
-{
+fn put_turn(out: &mut [u8], at: usize, answer: Answer) -> usize {
     match answer {
-        Answer::Met(reading) => {
-            let to = answers::put_reading(out, at.waiting, reading);
-            next_line(out, to, at)
-        }
+        Answer::Met(reading) => answers::put_reading(out, at, reading),
         Answer::Skipped(_) => at,
         Answer::Moved => at,
         Answer::Ended => at,
         Answer::Refused(_) => at,
-    }
-}
-
-// What the walk came to, by its last turn.
-fn decoded_of(answer: Answer, p: Progress) -> Decoded {
-    let end = p.at;
-    let count = p.made;
-    match answer {
-        Answer::Refused(refusal) => Decoded::Refused { refusal, count },
-        _ => Decoded::Ended { end, count },
     }
 }
 

@@ -6,10 +6,13 @@ use mathlib.Core.List.{List}
 use lib.ListN.{length}
 use Rattle.tables.specs.Table.{tableOf}
 use Rattle.fields.specs.Payload.{payloadOf}
+use Rattle.descriptor.specs.declared.PgnValue.{PgnValue}
+use Rattle.fields.specs.declared.Raw.{Raw}
+use Rattle.reading.specs.declared.Span.{Span}
 use Rattle.reading.specs.declared.Prepared.{Prepared}
 use Rattle.reading.specs.declared.Decoded.{Decoded}
 use Rattle.reading.specs.Filling.{preparedOf, runAfter}
-use Rattle.reading.specs.Decode.{walkOf, endOf, decodedOf}
+use Rattle.reading.specs.Decode.{walkOf, endOf, decodedOf, readingOf}
 
 -- ## Of what was received
 
@@ -33,3 +36,9 @@ walkedBy words s room =
     let t = tableOf words in
     let p = payloadOf s in
     endOf t p (walkOf t p room)
+
+-- what `reading_of` is handed: the raw and the value of the field met
+abbrev pub ReadOf : Raw → PgnValue → List ℕ → List ℕ → Span → Type 0
+ReadOf raw value words s v =
+    let r = readingOf (tableOf words) (payloadOf s) v in
+    (raw ≡ r .raw) × (value ≡ r .value)

@@ -3,8 +3,7 @@ ghost use mathlib.Core.Path.{_≡_};
 ghost use Rattle.tables.specs.Table.{tableOf};
 ghost use Rattle.walking.specs.declared.Look.the-variants as look;
 ghost use Rattle.fields.specs.Payload.{payloadOf};
-ghost use Rattle.fields.specs.Shapes.{shapeOf};
-ghost use Rattle.fields.specs.Content.{rawIn, valueIn};
+ghost use Rattle.reading.specs.Contracts.{ReadOf};
 ghost use Rattle.reading.specs.Decode.{readingOf};
 ghost use Rattle.reading.specs.Steps.{nextTo, shownAt, nextOf, startOf, cameTo};
 use crate::Answer;
@@ -53,7 +52,7 @@ fn next(answer: Answer, spot: Spot, progress: Progress) -> Next
 
 // The reading of a field met.
 fn reading_of(words: &[u64], s: &[u8], v: Span, raw: Raw, value: PgnValue) -> Reading
-    requires { ⌜ (raw ≡ rawIn (shapeOf (tableOf (now words) .field (v .field))) (payloadOf (now s)) (v .start .0) (v .bits .0)) × (value ≡ valueIn (shapeOf (tableOf (now words) .field (v .field))) (tableOf (now words) .field (v .field)) (payloadOf (now s)) (v .start .0) (v .bits .0)) ⌝ }
+    requires { ⌜ ReadOf raw value (now words) (now s) v ⌝ }
     ensures { λ r. ⌜ r ≡ readingOf (tableOf (now (words .entry))) (payloadOf (now (s .entry))) v ⌝ }
 {
     let field = v.field;

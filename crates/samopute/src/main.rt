@@ -11,41 +11,35 @@
 // Promise: any bytes may come, and any number of them, on lines of any length; the memory used stays
 // the same. The last line may lack its newline. Answers are written before more input is waited for.
 // Where the input or the output fails the program says so on standard error and ends.
-mod pieces;
+//
+// What is printed, and that it does not depend on the chunks, is `printing`'s: here is only read and
+// written.
+use tables::PAYLOAD_MAX;
 
-ghost use mathlib.Core.Path.{_≡_};
-ghost use Prim.Native.Nat.{_≤_};
-ghost use lib.ListN.{length};
-ghost use Rattle.tables.specs.Check.{payloadMax};
-
-// Where the program stands between two steps: what is known of the line; which part of the input is
-// not taken yet; how many bytes of answers wait to be written. `is_open` is false once the input has
-// ended or something has failed.
-pub(crate) struct At {
-    line: frames::Line,
-    from: usize,
-    to: usize,
-    waiting: usize,
-    is_open: bool,
-}
+const NAME: [u8; 8] = *b"samopute";
 
 fn main() {
     let mut input = io::large_buffer();
-    let mut payload = [0u8; tables::PAYLOAD_MAX];
-    let mut out = io::large_buffer();
-    run(&mut input, &mut payload, &mut out);
+    let mut payload = [0u8; PAYLOAD_MAX];
+    let mut page = [0u8; printing::PAGE];
+    run(&mut input, &mut payload, &mut page);
 }
 
 // A proved loop has to end, and nothing says that the input does. So the loop counts its turns down,
 // from a number that no run uses up.
-fn run(input: &mut [u8], payload: &mut [u8], out: &mut [u8])
-    requires { ⌜ (length (now input) ≡ 65536) × (length (now payload) ≡ payloadMax) × (length (now out) ≡ 65536) ⌝ }
-{
+fn run(input: &mut [u8], payload: &mut [u8], page: &mut [u8]) {
     let mut turns = u64::MAX;
-    let mut at = pieces::start();
-    while turns > 0 && at.is_open {
-        at = pieces::step(input, payload, out, at);
+    let mut at = textio::start();
+    let mut line = frames::empty_line();
+    let mut waits = false;
+    while turns > 0 && at.open {
+        at = textio::fetch(&NAME, input, at);
+        let from = at.from;
+        let to = at.to;
+        let p = printing::pass(line, waits, payload, &input[from..to], page, 0);
+        line = p.line;
+        waits = p.waits;
+        at = textio::store(&NAME, page, p.to, p.taken, at);
         turns -= 1;
     }
-    pieces::finish(out, at);
 }

@@ -1,30 +1,50 @@
--- `bitcalls::run` is safe and ends. The invariant: the buffers keep their lengths, and the state stays within them. The measure is
--- the number of turns that are left. Assumes nothing.
-use Prim.Native.Nat.{_≤_}
+-- `bitcalls::run` is safe and ends. The invariant: the buffers keep their lengths. The measure is the number of turns that are left. Assumes nothing.
 use mathlib.Core.Path.{_≡_}
 use borrow.Author.Needs.{needs}
 use lib.ListN.{length}
-use Rattle.textio.specs.Bounds.{Within}
+use native.Mathlib.Omega.{arith}
 use Rattle.bitcalls.proofs.run.Statement.{statement}
 use Rattle.bitcalls.proofs.run.Tie as tie
 
 abbrev Inv-loop : tie.InvT-loop
-Inv-loop input₀ line₀ out₀ turns₀ at₀ name input line out turns at = ((length input ≡ 65536) × (length line ≡ 1024) × (length out ≡ 65536) × (at .held ≤ 1024)) × Within at
+Inv-loop input₀ line₀ page₀ turns₀ at₀ held₀ waits₀ t11 t12 input line page turns at held waits =
+    (length input ≡ length input₀) × ((length line ≡ length line₀) × (length page ≡ length page₀))
 
 abbrev μ-loop : tie.MeasureT-loop
-μ-loop input₀ line₀ out₀ turns₀ at₀ name input line out turns at = turns
+μ-loop input₀ line₀ page₀ turns₀ at₀ held₀ waits₀ t11 t12 input line page turns at held waits = turns
 
 start-requires : tie.Need-start-requires Inv-loop μ-loop
 start-requires c κs = search needs
 
+nothing-requires : tie.Need-nothing-requires Inv-loop μ-loop
+nothing-requires c κs = search needs
+
 loop-holds : tie.Need-loop-holds Inv-loop μ-loop
 loop-holds c = search needs
 
-step-requires : tie.Need-step-requires Inv-loop μ-loop
-step-requires c κs = search needs
+slice-aggregate-fetch : tie.Need-slice-aggregate-fetch Inv-loop μ-loop
+slice-aggregate-fetch c = search needs
 
-answered-requires : tie.Need-answered-requires Inv-loop μ-loop
-answered-requires c κs = search needs
+fetch-requires : tie.Need-fetch-requires Inv-loop μ-loop
+fetch-requires c κs = search needs
+
+sub-pass : tie.Need-sub-pass Inv-loop μ-loop
+sub-pass c = search needs
+
+part-pass-start : tie.Need-part-pass-start Inv-loop μ-loop
+part-pass-start c = search needs
+
+part-pass-end : tie.Need-part-pass-end Inv-loop μ-loop
+part-pass-end c = search needs
+
+pass-requires : tie.Need-pass-requires Inv-loop μ-loop
+pass-requires c κs = search needs
+
+slice-aggregate-store : tie.Need-slice-aggregate-store Inv-loop μ-loop
+slice-aggregate-store c = search needs
+
+store-requires : tie.Need-store-requires Inv-loop μ-loop
+store-requires c κs = search needs
 
 sub-turns : tie.Need-sub-turns Inv-loop μ-loop
 sub-turns c = search needs
@@ -33,13 +53,9 @@ loop-less : tie.Need-loop-less Inv-loop μ-loop
 loop-less c = search needs
 
 loop-again : tie.Need-loop-again Inv-loop μ-loop
-loop-again c = search needs
-
-slice-aggregate-finish : tie.Need-slice-aggregate-finish Inv-loop μ-loop
-slice-aggregate-finish c = search needs
-
-finish-requires : tie.Need-finish-requires Inv-loop μ-loop
-finish-requires c κs = search needs
+loop-again c =
+    let sizes = c .before .before .before .before .before .before .before .before .before .before .before .before .before .before .before .before .before .before .before .before .loop .inv in
+    (omega (arith, sizes), (omega (arith, sizes), omega (arith, sizes)))
 
 same-length : tie.Need-same-length Inv-loop μ-loop
 same-length c = search needs
@@ -53,6 +69,18 @@ same-length-3 c = search needs
 returns : tie.Need-returns Inv-loop μ-loop
 returns c = search needs
 
+same-length-4 : tie.Need-same-length-4 Inv-loop μ-loop
+same-length-4 c = search needs
+
+same-length-5 : tie.Need-same-length-5 Inv-loop μ-loop
+same-length-5 c = search needs
+
+same-length-6 : tie.Need-same-length-6 Inv-loop μ-loop
+same-length-6 c = search needs
+
+returns-2 : tie.Need-returns-2 Inv-loop μ-loop
+returns-2 c = search needs
+
 pub run-spec : {M : Type 1} → statement M
 run-spec =
     tie.close
@@ -60,15 +88,24 @@ run-spec =
     Inv-loop
     μ-loop
     start-requires
+    nothing-requires
     loop-holds
-    step-requires
-    answered-requires
+    slice-aggregate-fetch
+    fetch-requires
+    sub-pass
+    part-pass-start
+    part-pass-end
+    pass-requires
+    slice-aggregate-store
+    store-requires
     sub-turns
     loop-less
     loop-again
-    slice-aggregate-finish
-    finish-requires
     same-length
     same-length-2
     same-length-3
-    returns)
+    returns
+    same-length-4
+    same-length-5
+    same-length-6
+    returns-2)

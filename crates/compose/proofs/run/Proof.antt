@@ -1,45 +1,62 @@
--- `compose::run` is safe and ends. The invariant: the buffers keep their lengths, and the state stays within them. The measure is
--- the number of turns that are left. Assumes nothing.
-use borrow.Author.Needs.{needs}
-use Prim.Native.Nat.{_≤_}
+-- `compose::run` is safe and ends. The invariant: the buffers keep their lengths. The measure is the number of turns that are left. Assumes nothing.
 use mathlib.Core.Path.{_≡_}
+use native.Mathlib.Omega.{arith}
+use borrow.Author.Needs.{needs}
 use lib.ListN.{length}
-use Rattle.textio.specs.Bounds.{Within}
 use Rattle.compose.proofs.run.Statement.{statement}
 use Rattle.compose.proofs.run.Tie as tie
 
 abbrev Inv-loop : tie.InvT-loop
-Inv-loop input₀ line₀ values₀ lent₀ out₀ turns₀ at₀ name input line values lent out turns at = ((length input ≡ 65536) × (length line ≡ 8192) × (length values ≡ 48000) × (length lent ≡ length lent₀) × (length out ≡ 65536) × (at .held ≤ 8192)) × Within at
+Inv-loop input₀ line₀ values₀ lent₀ page₀ turns₀ at₀ held₀ waits₀ t13 t14 input line values lent page turns at held waits =
+    (length input ≡ length input₀) × ((length line ≡ length line₀) × ((length values ≡ length values₀) × ((length lent ≡ length lent₀) × (length page ≡ length page₀))))
 
 abbrev μ-loop : tie.MeasureT-loop
-μ-loop input₀ line₀ values₀ lent₀ out₀ turns₀ at₀ name input line values lent out turns at = turns
+μ-loop input₀ line₀ values₀ lent₀ page₀ turns₀ at₀ held₀ waits₀ t13 t14 input line values lent page turns at held waits =
+    turns
 
 start-requires : tie.Need-start-requires Inv-loop μ-loop
 start-requires c κs = search needs
 
+nothing-requires : tie.Need-nothing-requires Inv-loop μ-loop
+nothing-requires c κs = search needs
+
 loop-holds : tie.Need-loop-holds Inv-loop μ-loop
 loop-holds c = search needs
 
-step-requires : tie.Need-step-requires Inv-loop μ-loop
-step-requires c κs = search needs
+slice-aggregate-fetch : tie.Need-slice-aggregate-fetch Inv-loop μ-loop
+slice-aggregate-fetch c = search needs
 
-answered-requires : tie.Need-answered-requires Inv-loop μ-loop
-answered-requires c κs = search needs
+fetch-requires : tie.Need-fetch-requires Inv-loop μ-loop
+fetch-requires c κs = search needs
+
+sub-pass : tie.Need-sub-pass Inv-loop μ-loop
+sub-pass c = search needs
+
+part-pass-start : tie.Need-part-pass-start Inv-loop μ-loop
+part-pass-start c = search needs
+
+part-pass-end : tie.Need-part-pass-end Inv-loop μ-loop
+part-pass-end c = search needs
+
+pass-requires : tie.Need-pass-requires Inv-loop μ-loop
+pass-requires c κs = search needs
+
+slice-aggregate-store : tie.Need-slice-aggregate-store Inv-loop μ-loop
+slice-aggregate-store c = search needs
+
+store-requires : tie.Need-store-requires Inv-loop μ-loop
+store-requires c κs = search needs
 
 sub-turns : tie.Need-sub-turns Inv-loop μ-loop
-sub-turns c = search needs
+sub-turns c = omega (arith, c .before .before .before .before .before .before .before .before .before .before .before .before .before .before .before .before .before .before .before .before .before .before .before .before .before .loop-test .taken)
 
 loop-less : tie.Need-loop-less Inv-loop μ-loop
-loop-less c = search needs
+loop-less c = omega (arith, c .before .before .before .before .before .before .before .before .before .before .before .before .before .before .before .before .before .before .before .before .before .before .before .before .before .loop-test .taken)
 
 loop-again : tie.Need-loop-again Inv-loop μ-loop
-loop-again c = search needs
-
-slice-aggregate-finish : tie.Need-slice-aggregate-finish Inv-loop μ-loop
-slice-aggregate-finish c = search needs
-
-finish-requires : tie.Need-finish-requires Inv-loop μ-loop
-finish-requires c κs = search needs
+loop-again c =
+    let inv = c .before .before .before .before .before .before .before .before .before .before .before .before .before .before .before .before .before .before .before .before .before .before .before .before .before .before .loop .inv in
+    (omega (arith, c .before .before .before .before .before .before .before .before .before .before .before .before .before .before .before .before .before .before .before .before .input .given), (omega (arith, c .before .before .before .before .before .before .before .before .before .before .before .line .given), (omega (arith, c .before .before .before .before .before .before .before .before .before .values .given), (omega (arith, c .before .before .before .before .before .before .before .lent .given), omega (arith, c .before .before .before .before .before .page .given)))))
 
 same-length : tie.Need-same-length Inv-loop μ-loop
 same-length c = search needs
@@ -59,6 +76,24 @@ same-length-5 c = search needs
 returns : tie.Need-returns Inv-loop μ-loop
 returns c = search needs
 
+same-length-6 : tie.Need-same-length-6 Inv-loop μ-loop
+same-length-6 c = search needs
+
+same-length-7 : tie.Need-same-length-7 Inv-loop μ-loop
+same-length-7 c = search needs
+
+same-length-8 : tie.Need-same-length-8 Inv-loop μ-loop
+same-length-8 c = search needs
+
+same-length-9 : tie.Need-same-length-9 Inv-loop μ-loop
+same-length-9 c = search needs
+
+same-length-10 : tie.Need-same-length-10 Inv-loop μ-loop
+same-length-10 c = search needs
+
+returns-2 : tie.Need-returns-2 Inv-loop μ-loop
+returns-2 c = search needs
+
 pub run-spec : {M : Type 1} → statement M
 run-spec =
     tie.close
@@ -66,17 +101,28 @@ run-spec =
     Inv-loop
     μ-loop
     start-requires
+    nothing-requires
     loop-holds
-    step-requires
-    answered-requires
+    slice-aggregate-fetch
+    fetch-requires
+    sub-pass
+    part-pass-start
+    part-pass-end
+    pass-requires
+    slice-aggregate-store
+    store-requires
     sub-turns
     loop-less
     loop-again
-    slice-aggregate-finish
-    finish-requires
     same-length
     same-length-2
     same-length-3
     same-length-4
     same-length-5
-    returns)
+    returns
+    same-length-6
+    same-length-7
+    same-length-8
+    same-length-9
+    same-length-10
+    returns-2)

@@ -1,5 +1,4 @@
--- `entries::list_values` meets its contract. The invariant: there is room for the values and texts so far, and the buffers keep their lengths. The measure is what is left of the line. Assumes nothing.
-use Prim.Native.Nat.{_-_, _≤_}
+-- `entries::list_values` is safe and ends. The invariant: the buffers keep their lengths. The measure is the number of turns that are left. Assumes nothing.
 use mathlib.Core.Path.{_≡_}
 use borrow.Author.Needs.{needs}
 use lib.ListN.{length}
@@ -7,19 +6,31 @@ use Rattle.compose.proofs.entries.list_values.Statement.{statement}
 use Rattle.compose.proofs.entries.list_values.Tie as tie
 
 abbrev Inv-loop : tie.InvT-loop
-Inv-loop s from values₀ lent₀ end₀ count₀ used₀ values lent end count used = (end ≤ length s) × ((count ≤ 2000) × ((used ≤ length lent₀) × ((length values ≡ 48000) × (length lent ≡ length lent₀))))
+Inv-loop s values₀ lent₀ turns₀ end₀ to₀ used₀ values lent turns end to used = (length values ≡ length values₀) × (length lent ≡ length lent₀)
 
 abbrev μ-loop : tie.MeasureT-loop
-μ-loop s from values₀ lent₀ end₀ count₀ used₀ values lent end count used = length s - end
+μ-loop s values₀ lent₀ turns₀ end₀ to₀ used₀ values lent turns end to used = turns
 
 loop-holds : tie.Need-loop-holds Inv-loop μ-loop
 loop-holds c = search needs
 
-add-start : tie.Need-add-start Inv-loop μ-loop
-add-start c = search needs
+sub-turns : tie.Need-sub-turns Inv-loop μ-loop
+sub-turns c = search needs
+
+sum-requires : tie.Need-sum-requires Inv-loop μ-loop
+sum-requires c κs = search needs
 
 field-end-requires : tie.Need-field-end-requires Inv-loop μ-loop
 field-end-requires c κs = search needs
+
+part-requires : tie.Need-part-requires Inv-loop μ-loop
+part-requires c κs = search needs
+
+entry-of-requires : tie.Need-entry-of-requires Inv-loop μ-loop
+entry-of-requires c κs = search needs
+
+put-entry-requires : tie.Need-put-entry-requires Inv-loop μ-loop
+put-entry-requires c κs = search needs
 
 none-listed-requires : tie.Need-none-listed-requires Inv-loop μ-loop
 none-listed-requires c κs = search needs
@@ -33,20 +44,14 @@ same-length-2 c = search needs
 returns : tie.Need-returns Inv-loop μ-loop
 returns c = search needs
 
-sub-entry-of : tie.Need-sub-entry-of Inv-loop μ-loop
-sub-entry-of c = search needs
+sum-requires-2 : tie.Need-sum-requires-2 Inv-loop μ-loop
+sum-requires-2 c κs = search needs
 
-part-entry-of-start : tie.Need-part-entry-of-start Inv-loop μ-loop
-part-entry-of-start c = search needs
+loop-less : tie.Need-loop-less Inv-loop μ-loop
+loop-less c = search needs
 
-part-entry-of-end : tie.Need-part-entry-of-end Inv-loop μ-loop
-part-entry-of-end c = search needs
-
-entry-of-requires : tie.Need-entry-of-requires Inv-loop μ-loop
-entry-of-requires c κs = search needs
-
-none-listed-requires-2 : tie.Need-none-listed-requires-2 Inv-loop μ-loop
-none-listed-requires-2 c κs = search needs
+loop-again : tie.Need-loop-again Inv-loop μ-loop
+loop-again c = search needs
 
 same-length-3 : tie.Need-same-length-3 Inv-loop μ-loop
 same-length-3 c = search needs
@@ -56,27 +61,6 @@ same-length-4 c = search needs
 
 returns-2 : tie.Need-returns-2 Inv-loop μ-loop
 returns-2 c = search needs
-
-mul-put-entry : tie.Need-mul-put-entry Inv-loop μ-loop
-mul-put-entry c = search needs
-
-put-entry-requires : tie.Need-put-entry-requires Inv-loop μ-loop
-put-entry-requires c κs = search needs
-
-add-count : tie.Need-add-count Inv-loop μ-loop
-add-count c = search needs
-
-add-used : tie.Need-add-used Inv-loop μ-loop
-add-used c = search needs
-
-loop-less : tie.Need-loop-less Inv-loop μ-loop
-loop-less c = search needs
-
-loop-again : tie.Need-loop-again Inv-loop μ-loop
-loop-again c = search needs
-
-mul-t20 : tie.Need-mul-t20 Inv-loop μ-loop
-mul-t20 c = search needs
 
 same-length-5 : tie.Need-same-length-5 Inv-loop μ-loop
 same-length-5 c = search needs
@@ -94,27 +78,22 @@ list-values-spec =
     Inv-loop
     μ-loop
     loop-holds
-    add-start
+    sub-turns
+    sum-requires
     field-end-requires
+    part-requires
+    entry-of-requires
+    put-entry-requires
     none-listed-requires
     same-length
     same-length-2
     returns
-    sub-entry-of
-    part-entry-of-start
-    part-entry-of-end
-    entry-of-requires
-    none-listed-requires-2
+    sum-requires-2
+    loop-less
+    loop-again
     same-length-3
     same-length-4
     returns-2
-    mul-put-entry
-    put-entry-requires
-    add-count
-    add-used
-    loop-less
-    loop-again
-    mul-t20
     same-length-5
     same-length-6
     returns-3)

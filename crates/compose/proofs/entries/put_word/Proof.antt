@@ -1,28 +1,25 @@
--- `entries::put_word` is safe and ends. The invariant: `values` keeps its length. Assumes nothing.
-use Prim.Native.Nat.{_-_, _≤_}
+-- `entries::put_word` is safe and ends. The invariant: the buffer keeps its length. The measure is how many bytes are left. Assumes nothing.
 use mathlib.Core.Path.{_≡_}
+use Prim.Native.Nat.{_-_, _≤_}
 use borrow.Author.Needs.{needs}
 use lib.ListN.{length}
 use Rattle.compose.proofs.entries.put_word.Statement.{statement}
 use Rattle.compose.proofs.entries.put_word.Tie as tie
 
 abbrev Inv-loop : tie.InvT-loop
-Inv-loop values₀ at w rest₀ i₀ values rest i = (i ≤ 8) × (length values ≡ length values₀)
+Inv-loop values₀ at w to₀ rest₀ i₀ values to rest i = (length values ≡ length values₀) × (i ≤ 8)
 
 abbrev μ-loop : tie.MeasureT-loop
-μ-loop values₀ at w rest₀ i₀ values rest i = 8 - i
+μ-loop values₀ at w to₀ rest₀ i₀ values to rest i = 8 - i
 
 loop-holds : tie.Need-loop-holds Inv-loop μ-loop
 loop-holds c = search needs
 
-cast-values : tie.Need-cast-values Inv-loop μ-loop
-cast-values c = search needs
+cast-put : tie.Need-cast-put Inv-loop μ-loop
+cast-put c = search needs
 
-add-values : tie.Need-add-values Inv-loop μ-loop
-add-values c = search needs
-
-slice-write-values : tie.Need-slice-write-values Inv-loop μ-loop
-slice-write-values c = search needs
+put-requires : tie.Need-put-requires Inv-loop μ-loop
+put-requires c κs = search needs
 
 add-i : tie.Need-add-i Inv-loop μ-loop
 add-i c = search needs
@@ -46,9 +43,8 @@ put-word-spec =
     Inv-loop
     μ-loop
     loop-holds
-    cast-values
-    add-values
-    slice-write-values
+    cast-put
+    put-requires
     add-i
     loop-less
     loop-again

@@ -1,0 +1,4 @@
+pub mod Machine
+pub mod Calls
+pub mod Held
+pub mod Passing
