@@ -1,14 +1,22 @@
--- A call by its arm of a match, and by its COUNT. Assumes nothing.
-use mathlib.Core.Path.{_≡_, sym, ap}
+-- A call by its name, by its arm of a match, and by its COUNT. Assumes nothing.
+use mathlib.Core.Path.{_≡_, sym, ap, _∙_}
 use mathlib.Core.List.{List}
 use Prim.Native.Nat.{ℕ, _≤_, _<_}
 use borrow.Author.Tests.{eq-eqb, ne-eqb, le-leb, lt-leb}
+use lib.ListN.{getD}
 use Rattle.text.specs.Refusals.{malformedText}
-use Rattle.columns.specs.Parts.{space, marksIn}
+use Rattle.columns.specs.Parts.{space, field, marksIn}
+use Rattle.columns.specs.Names.{placeIn}
 use Rattle.bits.specs.declared.Cursor.{Cursor}
-use Rattle.bitcalls.specs.Names.{callOf, spacesOf, countMax}
-use Rattle.bitcalls.specs.Answers.{callText, countedText, field, formText}
+use Rattle.bitcalls.specs.Names.{names, calls, callOf, spacesOf, countMax}
+use Rattle.bitcalls.specs.Answers.{callText, countedText, formText}
 use Rattle.bitcalls.specs.declared.names.Call.{Call}
+use Rattle.bitcalls.specs.declared.names.Call.the-variants.{Unknown}
+
+-- the call at a name's place
+pub named : (name : List ℕ) {n : ℕ} {r : Call} → r ≡ getD calls n Unknown → n ≡ placeIn name names → r ≡ callOf name
+unfolding callOf
+named name e f = e ∙ ap (λ (n : ℕ). getD calls n Unknown) f
 
 module _ (c : Cursor) (s : List ℕ) (n : ℕ) where
   module _ (value : List ℕ) (x : Call) where

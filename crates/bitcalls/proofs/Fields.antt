@@ -1,53 +1,34 @@
 -- A line by its fields: what the fields that every line has were read as, and the answer. Assumes nothing.
-use mathlib.Core.Path.{_≡_, refl, sym, _∙_}
+use mathlib.Core.Path.{_≡_, sym, _∙_}
 use mathlib.Core.Bool.{Bool, true, false, _&&_}
-use mathlib.Core.List.{List, [], _∷_}
-use Prim.Native.Nat.{ℕ, suc, _+_, _-_, _≤_, _<_}
+use mathlib.Core.List.{List}
+use Prim.Native.Nat.{ℕ, _-_, _≤_}
 use native.Mathlib.Omega.{arith}
-use lib.Dec.{eqb}
 use lib.ListN.{length, take}
-use Rattle.bits.specs.Bits.{pick}
 use Rattle.bits.specs.Calls.{cursorAt}
 use Rattle.bits.specs.declared.Cursor.{Cursor}
 use Rattle.text.specs.Refusals.{malformedText}
-use Rattle.columns.specs.Parts.{longer, partsOf, marksIn}
+use Rattle.columns.specs.Parts.{field}
 use Rattle.columns.specs.Numbers.{decimalIn}
+use Rattle.columns.specs.Runs.{isBytes, bytesOf}
 use Rattle.columns.specs.declared.Number.{Number}
 use Rattle.columns.specs.declared.Run.{Run}
-use Rattle.bitcalls.specs.Text.{isBytes, bytesOf}
-use Rattle.bitcalls.specs.Answers.{field, formText, answerText}
-use Rattle.bitcalls.proofs.Bytes.{Stored}
-
--- ## There is a field more than there are marks
-
-longer-size : (b : ℕ) (ps : List (List ℕ)) → 0 < length ps → length (longer b ps) ≡ length ps
-longer-size b [] l = absurd (omega arith)
-longer-size b (p ∷ ps) l = refl
-
-pub field-count : (mark : ℕ) (s : List ℕ) → length (partsOf mark s) ≡ suc (marksIn mark s)
-unfolding partsOf marksIn
-field-count mark [] = refl
-field-count mark (b ∷ bs) = go (eqb b mark) (field-count mark bs)
-  where
-    go : (t : Bool) → length (partsOf mark bs) ≡ suc (marksIn mark bs)
-        → length (pick t ([] ∷ partsOf mark bs) (longer b (partsOf mark bs))) ≡ suc (pick t 1 0 + marksIn mark bs)
-    go true e = omega arith
-    go false e = omega (arith, longer-size b (partsOf mark bs) (omega arith))
-
--- ## The fields that every line has
+use Rattle.columns.proofs.Stored.{Stored}
+use Rattle.bitcalls.specs.Text.{bytesMax}
+use Rattle.bitcalls.specs.Answers.{formText, answerText}
 
 third : (a b c : Bool) → (a && b && c) ≡ true → c ≡ true
 third true true c e = e
 third true false c e = let z : _≡_ {A = ℕ} 0 1 = cc in absurd (omega arith)
 third false b c e = let z : _≡_ {A = ℕ} 0 1 = cc in absurd (omega arith)
 
--- .. as they were read: CURSOR, COUNT, and the bytes of BUFFER
+-- the fields that every line has, as they were read: CURSOR, COUNT, and the bytes of BUFFER
 module _ (line : List ℕ) {cursor count : Number} {run : Run} {buffer : List ℕ} (first : cursor ≡ decimalIn (field line 1)) (second : count ≡ decimalIn (field line 2))
-    (bytes : Stored (isBytes (field line 3)) (bytesOf (field line 3)) run buffer) where
+    (bytes : Stored (isBytes bytesMax (field line 3)) (bytesOf (field line 3)) run buffer) where
   abbrev good : Bool
   good = cursor .good && count .good && run .good
 
-  bytes-good : good ≡ true → isBytes (field line 3) ≡ true
+  bytes-good : good ≡ true → isBytes bytesMax (field line 3) ≡ true
   bytes-good g = sym (bytes .good) ∙ third (cursor .good) (count .good) (run .good) g
 
   pub buffer-within : good ≡ true → run .len ≤ length buffer

@@ -1,12 +1,8 @@
--- a name is that of one call
-mod Naming
 -- an answer of the narrower reads as one of the widest, and what a refusal carries
 mod Answering
--- bytes that a field spells, as they are stored
-mod Bytes
 -- the answers that go by a VALUE or a COUNT
 mod Values
--- the calls that share an arm of a match
+-- a call by its name, by its arm of a match, and by its COUNT
 mod Arms
 -- a line by its fields
 mod Fields

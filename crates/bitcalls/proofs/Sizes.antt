@@ -25,25 +25,22 @@ use Rattle.bits.proofs.Rooms.{whole}
 use Rattle.bits.proofs.Laws.{length-writtenOf}
 use Rattle.bits.proofs.Slices.{length-pasted}
 use Rattle.hexadecimal.specs.Digits.{allDigits}
-use Rattle.hexadecimal.proofs.Inverse.{length-digits, length-pairs}
-use Rattle.text.specs.Digits.{spaced, spacedHex, bytesText}
+use Rattle.hexadecimal.proofs.Inverse.{both, length-pairs}
+use Rattle.text.specs.Digits.{spaced, spacedHex}
 use Rattle.text.specs.Refusals.{carriedText, carriedTexts, refusedText, malformedText, tableRefused}
-use Rattle.text.proofs.Sizes.{spaced-size, hex-size}
-use Rattle.columns.specs.Parts.{space, marksIn}
+use Rattle.text.proofs.Sizes.{either, spaced-size, hex-size, bytes-size}
+use Rattle.columns.specs.Parts.{space, field, marksIn}
 use Rattle.columns.specs.Numbers.{decimalIn, hexIn}
+use Rattle.columns.specs.Runs.{isBytes, bytesOf}
 use Rattle.lines.specs.Machine.{newline}
 use Rattle.bitcalls.specs.Names.{callOf, spacesOf, countMax, widest, largest}
-use Rattle.bitcalls.specs.Text.{okText, refusalText, partText, readText, sliceText, movedText, writtenText, remainingText, writeText, bytesMax, isBytes, bytesOf, writeSliceText}
-use Rattle.bitcalls.specs.Answers.{callText, countedText, field, formText, headText, answerText, answered}
+use Rattle.bitcalls.specs.Text.{okText, refusalText, partText, readText, sliceText, movedText, writtenText, remainingText, writeText, bytesMax, writeSliceText}
+use Rattle.bitcalls.specs.Answers.{callText, countedText, formText, headText, answerText, answered}
 use Rattle.bitcalls.specs.declared.names.Call.{Call}
 use Rattle.bitcalls.specs.declared.names.Call.the-variants.{Read, Advance, ReadSlice, Write, WriteAdvance, WriteSlice, Remaining, Unknown}
 use Rattle.bitcalls.specs.declared.names.Width.{Width}
 
 -- ## The parts
-
-either : (t : Bool) (a b : List ℕ) (n : ℕ) → length a ≤ n → length b ≤ n → length (pick t a b) ≤ n
-either true a b n h k = h
-either false a b n h k = k
 
 ok-size : (n : ℕ) → length (okText n) ≤ 23
 ok-size n = omega (arith, spaced-size n)
@@ -71,10 +68,6 @@ refused-size number ns l =
 
 refusal-size : (e : BitRefusal) → length (refusalText e) ≤ 64
 refusal-size e = refused-size (numberOf e) (carriedOf e) (few e)
-
-bytes-size : (s : List ℕ) → length (bytesText s) ≤ 1 + 2 * length s
-bytes-size [] = omega arith
-bytes-size (x ∷ xs) = omega (arith, length-digits (x ∷ xs))
 
 -- ## The answers
 
@@ -126,7 +119,7 @@ module _ (c : Cursor) (s : List ℕ) (n : ℕ) where
   write-slice-size value =
       let src = bytesOf value in
       let m = writeSliceOf (length s) c (length src) in
-      either (isBytes value && eqb (length src) n) (writtenText m (slicedOf s c src)) malformedText most
+      either (isBytes bytesMax value && eqb (length src) n) (writtenText m (slicedOf s c src)) malformedText most
       (omega (arith, written-size m (slicedOf s c src), sliced-length s c src)) (omega arith)
 
   call-size : (x : Call) (value : List ℕ) → length (callText x c s n value) ≤ most
@@ -147,11 +140,7 @@ module _ (c : Cursor) (s : List ℕ) (n : ℕ) where
 
 -- ## A line
 
-both : (a b : Bool) → (a && b) ≡ true → (a ≡ true) × (b ≡ true)
-both true b e = (refl, e)
-both false b e = let z : _≡_ {A = ℕ} 0 1 = cc in absurd (omega arith)
-
-few-bytes : (field : List ℕ) → isBytes field ≡ true → length (bytesOf field) ≤ bytesMax
+few-bytes : (field : List ℕ) → isBytes bytesMax field ≡ true → length (bytesOf field) ≤ bytesMax
 few-bytes [] e = omega arith
 few-bytes (b ∷ []) e = omega arith
 few-bytes (b ∷ c ∷ bs) e =
@@ -166,9 +155,9 @@ textMax = 70 + 2 * bytesMax
 
 head-size : (cursor count buffer : List ℕ) (rest : Cursor → List ℕ → ℕ → List ℕ)
     → ((c : Cursor) (s : List ℕ) (n : ℕ) → length (rest c s n) ≤ 70 + 2 * length s) → length (headText cursor count buffer rest) ≤ textMax
-head-size cursor count buffer rest l = go (decimalIn cursor .good && decimalIn count .good) (isBytes buffer) refl
+head-size cursor count buffer rest l = go (decimalIn cursor .good && decimalIn count .good) (isBytes bytesMax buffer) refl
   where
-    go : (g t : Bool) → isBytes buffer ≡ t
+    go : (g t : Bool) → isBytes bytesMax buffer ≡ t
         → length (pick (g && t) (rest (cursorAt (decimalIn cursor .value)) (bytesOf buffer) (decimalIn count .value)) malformedText) ≤ textMax
     go true true e = omega (arith, l (cursorAt (decimalIn cursor .value)) (bytesOf buffer) (decimalIn count .value), few-bytes buffer e)
     go true false e = omega arith

@@ -8,16 +8,17 @@ use lib.ListN.{length, take}
 use Rattle.text.specs.Digits.{spaced}
 use Rattle.text.specs.Refusals.{malformedText}
 use Rattle.columns.specs.Numbers.{hexIn}
+use Rattle.columns.specs.Runs.{isBytes, bytesOf}
 use Rattle.columns.specs.declared.Number.{Number}
 use Rattle.columns.specs.declared.Run.{Run}
+use Rattle.columns.proofs.Stored.{Stored}
 use Rattle.bits.specs.Calls.{place, advanceOf, writtenOf, writeSliceOf, slicedOf, remainingOf}
 use Rattle.bits.specs.declared.BitPos.{BitPos}
 use Rattle.bits.specs.declared.Cursor.{Cursor}
 use Rattle.bits.specs.declared.Moved.{Moved}
 use Rattle.bitcalls.specs.Names.{widest, largest}
-use Rattle.bitcalls.specs.Text.{okText, writtenText, remainingText, writeText, isBytes, bytesOf, writeSliceText}
+use Rattle.bitcalls.specs.Text.{okText, writtenText, remainingText, writeText, bytesMax, writeSliceText}
 use Rattle.bitcalls.specs.declared.names.Width.{Width}
-use Rattle.bitcalls.proofs.Bytes.{Stored}
 
 module _ (c : Cursor) (s : List ℕ) (n : ℕ) where
   pub remaining-count : (n ≡ 0 → ⊥) → malformedText ≡ remainingText c s n
@@ -39,13 +40,13 @@ module _ (c : Cursor) (s : List ℕ) (n : ℕ) where
     write g l f h = rw (← e, g, le-leb (v .value) (largest w) l, f, h)
 
   -- the bytes of the VALUE, as they were stored
-  module _ (value : List ℕ) {r : Run} {new : List ℕ} (h : Stored (isBytes value) (bytesOf value) r new) where
+  module _ (value : List ℕ) {r : Run} {new : List ℕ} (h : Stored (isBytes bytesMax value) (bytesOf value) r new) where
     pub slice-bad : r .good ≡ false → malformedText ≡ writeSliceText c s n value
     slice-bad g = rw (sym (h .good) ∙ g)
 
     pub slice-other : r .good ≡ true → (r .len ≡ n → ⊥) → malformedText ≡ writeSliceText c s n value
     slice-other g o =
-        let is : isBytes value ≡ true = sym (h .good) ∙ g in
+        let is : isBytes bytesMax value ≡ true = sym (h .good) ∙ g in
         let count = h .count is in
         let unlike : length (bytesOf value) ≡ n → ⊥ = λ z. o (count ∙ z) in
         rw (is, ne-eqb (length (bytesOf value)) n unlike)
@@ -53,6 +54,6 @@ module _ (c : Cursor) (s : List ℕ) (n : ℕ) where
     pub slice : r .good ≡ true → r .len ≡ n → {m : Moved} {s′ : List ℕ} → m ≡ writeSliceOf (length s) c (length (take (r .len - 0) new)) → s′ ≡ slicedOf s c (take (r .len - 0) new)
         → writtenText m s′ ≡ writeSliceText c s n value
     slice g o f k =
-        let is : isBytes value ≡ true = sym (h .good) ∙ g in
+        let is : isBytes bytesMax value ≡ true = sym (h .good) ∙ g in
         let count = h .count is in
         rw (is, eq-eqb (length (bytesOf value)) n (sym count ∙ o), f, k, h .first is)

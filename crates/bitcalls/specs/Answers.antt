@@ -3,16 +3,18 @@ use Prim.Native.Nat.{ℕ}
 use mathlib.Core.List.{List, [], _∷_, _++_}
 use mathlib.Core.Bool.{_&&_}
 use lib.Dec.{eqb, leb}
-use lib.ListN.{length, getD}
+use lib.ListN.{length}
 use Rattle.bits.specs.Bits.{pick}
 use Rattle.bits.specs.Calls.{cursorAt, readOf, advanceOf, readSliceOf}
 use Rattle.bits.specs.declared.Cursor.{Cursor}
 use Rattle.text.specs.Refusals.{malformedText}
-use Rattle.columns.specs.Parts.{space, partsOf, marksIn}
+use Rattle.columns.specs.Parts.{space, field, marksIn}
 use Rattle.columns.specs.Numbers.{decimalIn}
-use Rattle.lines.specs.Machine.{newline}
+use Rattle.columns.specs.Runs.{isBytes, bytesOf}
+use Rattle.lines.specs.Machine.{newline, textOf}
+use Rattle.lines.specs.Held.{capped}
 use Rattle.bitcalls.specs.Names.{callOf, spacesOf, countMax, widest}
-use Rattle.bitcalls.specs.Text.{readText, sliceText, movedText, writtenText, remainingText, writeText, isBytes, bytesOf, writeSliceText}
+use Rattle.bitcalls.specs.Text.{readText, sliceText, movedText, writtenText, remainingText, writeText, bytesMax, writeSliceText}
 use Rattle.bitcalls.specs.declared.names.Call.{Call}
 use Rattle.bitcalls.specs.declared.names.Call.the-variants.{Read, Advance, ReadSlice, Write, WriteAdvance, WriteSlice, Remaining, Unknown}
 
@@ -31,10 +33,6 @@ callText Unknown c s n value = malformedText
 abbrev pub countedText : Call → Cursor → List ℕ → ℕ → List ℕ → List ℕ
 countedText call c s n value = pick (leb n (countMax call)) (callText call c s n value) malformedText
 
--- the field at place i of a line, counted from 0
-abbrev pub field : List ℕ → ℕ → List ℕ
-field line i = getD (partsOf space line) i []
-
 -- .. if the line has as many fields as its call: "a line that is no call [..] is answered F 14"
 abbrev pub formText : List ℕ → Cursor → List ℕ → ℕ → List ℕ
 formText line c s n =
@@ -43,7 +41,7 @@ formText line c s n =
 -- "CURSOR and COUNT are decimal. [..] BUFFER is capital hexadecimal"; what follows goes by them
 abbrev pub headText : List ℕ → List ℕ → List ℕ → (Cursor → List ℕ → ℕ → List ℕ) → List ℕ
 headText cursor count buffer rest =
-    pick (decimalIn cursor .good && decimalIn count .good && isBytes buffer) (rest (cursorAt (decimalIn cursor .value)) (bytesOf buffer) (decimalIn count .value))
+    pick (decimalIn cursor .good && decimalIn count .good && isBytes bytesMax buffer) (rest (cursorAt (decimalIn cursor .value)) (bytesOf buffer) (decimalIn count .value))
     malformedText
 
 -- "CALL CURSOR COUNT BUFFER [VALUE]"
@@ -52,3 +50,11 @@ answerText line = headText (field line 1) (field line 2) (field line 3) (formTex
 
 unfoldable pub answered : List ℕ → List ℕ
 answered line = answerText line ++ newline ∷ []
+
+-- a line of more bytes is answered as an empty one, which is F 14
+abbrev pub lineMax : ℕ
+lineMax = 1024
+
+-- all that is printed for an input
+abbrev pub printed : List ℕ → List ℕ
+printed input = textOf (capped lineMax answered) input

@@ -1,21 +1,12 @@
 -- The calls by their names: document 01, "Bit calls".
-use Prim.Native.Nat.{ℕ, suc}
+use Prim.Native.Nat.{ℕ}
 use mathlib.Core.List.{List, [], _∷_, _++_}
-use mathlib.Core.Bool.{Bool, true, false, _&&_}
-use lib.Dec.{eqb}
 use lib.ListN.{getD}
-use Rattle.bits.specs.Bits.{pick}
+use Rattle.columns.specs.Names.{placeIn}
 use Rattle.bitcalls.specs.declared.names.Width.{Width}
 use Rattle.bitcalls.specs.declared.names.Width.the-variants.{W64, W32, W16, W8}
 use Rattle.bitcalls.specs.declared.names.Call.{Call}
 use Rattle.bitcalls.specs.declared.names.Call.the-variants.{Read, Advance, ReadSlice, Write, WriteAdvance, WriteSlice, Remaining, Unknown}
-
--- whether two texts are the same, byte by byte
-unfoldable pub same : List ℕ → List ℕ → Bool
-same [] [] = true
-same [] (y ∷ ys) = false
-same (x ∷ xs) [] = false
-same (x ∷ xs) (y ∷ ys) = eqb x y && same xs ys
 
 -- ## The words that names are made of
 
@@ -64,11 +55,6 @@ abbrev pub calls : List Call
 calls =
     Read W64 ∷ Read W32 ∷ Read W16 ∷ Read W8 ∷ Write W64 ∷ Write W32 ∷ Write W16 ∷ Write W8
     ∷ Advance ∷ WriteAdvance ∷ ReadSlice ∷ WriteSlice ∷ Remaining ∷ []
-
--- the place of a text in a list, or past its end
-unfoldable pub placeIn : List ℕ → List (List ℕ) → ℕ
-placeIn name [] = 0
-placeIn name (x ∷ xs) = pick (same name x) 0 (suc (placeIn name xs))
 
 unfoldable pub callOf : List ℕ → Call
 callOf name = getD calls (placeIn name names) Unknown

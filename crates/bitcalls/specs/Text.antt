@@ -1,7 +1,7 @@
 -- The text of a bit call's answer: src/main.rt, "'ok CURSOR' and what was read, or 'F NUMBER' and what the refusal carries".
-use Prim.Native.Nat.{ℕ, _/_, _%_}
-use mathlib.Core.List.{List, [], _∷_, _++_}
-use mathlib.Core.Bool.{Bool, false, _&&_}
+use Prim.Native.Nat.{ℕ}
+use mathlib.Core.List.{List, _∷_, _++_}
+use mathlib.Core.Bool.{_&&_}
 use lib.Dec.{eqb, leb}
 use lib.ListN.{length}
 use Rattle.bits.specs.Bits.{pick}
@@ -15,11 +15,10 @@ use Rattle.bits.specs.declared.ReadSlice.{ReadSlice}
 use Rattle.bits.specs.declared.ReadSlice.the-variants as slice
 use Rattle.bits.specs.declared.Moved.{Moved}
 use Rattle.bits.specs.declared.Moved.the-variants as moved
-use Rattle.hexadecimal.specs.Digits.{allDigits, pairsOf}
 use Rattle.text.specs.Digits.{spaced, spacedHex, bytesText}
 use Rattle.text.specs.Refusals.{refusedText, malformedText}
 use Rattle.columns.specs.Numbers.{hexIn}
-use Rattle.columns.specs.Runs.{dash}
+use Rattle.columns.specs.Runs.{isBytes, bytesOf}
 use Rattle.bitcalls.specs.Names.{widest, largest}
 use Rattle.bitcalls.specs.declared.names.Width.{Width}
 
@@ -63,24 +62,13 @@ writeText w c s n value =
     (writtenText (advanceOf (length s) c n (widest w)) (writtenOf s c n (widest w) (hexIn value .value)))
     malformedText
 
--- no BUFFER and no VALUE has more bytes
+-- no BUFFER and no VALUE has more bytes: "capital hexadecimal, two digits a byte, or '-' where it is empty"
 abbrev pub bytesMax : ℕ
 bytesMax = 256
-
--- "capital hexadecimal, two digits a byte, or '-' where it is empty"
-abbrev pub isBytes : List ℕ → Bool
-isBytes [] = false
-isBytes (b ∷ []) = eqb b dash
-isBytes (b ∷ c ∷ bs) = eqb (length (b ∷ c ∷ bs) % 2) 0 && leb (length (b ∷ c ∷ bs) / 2) bytesMax && allDigits (b ∷ c ∷ bs)
-
-abbrev pub bytesOf : List ℕ → List ℕ
-bytesOf [] = []
-bytesOf (b ∷ []) = []
-bytesOf (b ∷ c ∷ bs) = pairsOf (b ∷ c ∷ bs)
 
 -- "bytes as in BUFFER", COUNT of them
 abbrev pub writeSliceText : Cursor → List ℕ → ℕ → List ℕ → List ℕ
 writeSliceText c s n value =
-    pick (isBytes value && eqb (length (bytesOf value)) n)
+    pick (isBytes bytesMax value && eqb (length (bytesOf value)) n)
     (writtenText (writeSliceOf (length s) c (length (bytesOf value))) (slicedOf s c (bytesOf value)))
     malformedText

@@ -1,10 +1,10 @@
 // The calls by their names.
 ghost use mathlib.Core.Path.{_≡_};
-ghost use mathlib.Core.List.{[]};
 ghost use lib.ListN.{getD};
-ghost use Rattle.columns.specs.Parts.{space, partsOf};
+ghost use Rattle.columns.specs.Parts.{field};
 ghost use Rattle.bitcalls.specs.declared.names.Call.the-variants.{Unknown};
-ghost use Rattle.bitcalls.specs.Names.{same, placeIn, calls, callOf, spacesOf, countMax, largest};
+ghost use Rattle.bitcalls.specs.Names.{calls, callOf, spacesOf, countMax, largest};
+use columns::place_in;
 use columns::word;
 
 // How wide a number call is at the most.
@@ -24,27 +24,6 @@ pub(crate) enum Call {
     WriteSlice,
     Remaining,
     Unknown,
-}
-
-fn is(name: &[u8], text: &[u8]) -> bool
-    ensures { λ r. ⌜ r ≡ same (now (name .entry)) (now (text .entry)) ⌝ }
-{
-    check::same(name, text)
-}
-
-// The place of a name among the words of a text; past them where it is none.
-fn place_in(name: &[u8], text: &[u8]) -> usize
-    ensures { λ r. ⌜ r ≡ placeIn (now (name .entry)) (partsOf space (now (text .entry))) ⌝ }
-{
-    let last = columns::marks(text, b' ');
-    let mut i = 0;
-    while i <= last {
-        if is(name, word(text, i)) {
-            return i;
-        }
-        i += 1;
-    }
-    i
 }
 
 fn call_at(place: usize) -> Call
@@ -70,7 +49,7 @@ fn call_at(place: usize) -> Call
 
 // The call that a line names, in its first field.
 pub(crate) fn call_of(line: &[u8]) -> Call
-    ensures { λ r. ⌜ r ≡ callOf (getD (partsOf space (now (line .entry))) 0 []) ⌝ }
+    ensures { λ r. ⌜ r ≡ callOf (field (now (line .entry)) 0) ⌝ }
 {
     call_at(place_in(
         word(line, 0),

@@ -2,11 +2,9 @@
 ghost use Prim.Native.Nat.{_≤_};
 ghost use mathlib.Core.Path.{_≡_};
 ghost use mathlib.Core.Bool.{_&&_};
-ghost use mathlib.Core.List.{[]};
-ghost use lib.ListN.{getD};
 ghost use Rattle.bits.specs.Calls.{cursorAt};
 ghost use Rattle.text.specs.Sheet.{Puts};
-ghost use Rattle.columns.specs.Parts.{space, partsOf};
+ghost use Rattle.columns.specs.Parts.{field};
 ghost use Rattle.columns.specs.Numbers.{decimalIn};
 ghost use Rattle.bitcalls.specs.Answers.{countedText, formText, answerText, answered};
 ghost use Rattle.bitcalls.specs.Contracts.{Passes};
@@ -42,7 +40,7 @@ fn all(a: bool, b: bool, c: bool) -> bool
 
 // The field at place i, in decimal.
 fn number(line: &[u8], i: usize) -> Number
-    ensures { λ r. ⌜ r ≡ decimalIn (getD (partsOf space (now (line .entry))) i []) ⌝ }
+    ensures { λ r. ⌜ r ≡ decimalIn (field (now (line .entry)) i) ⌝ }
 {
     columns::decimal(word(line, i))
 }

@@ -1,10 +1,11 @@
 -- The cases of document 01 that are marked *, all of them, in its order and words, and then what the printing program prints for its worked line and for each
 -- refusal: each is computed from the definitions that the contracts cite. Assumes nothing.
 use mathlib.Core.Path.{_≡_, refl, _∙_}
-use mathlib.Core.List.{List, [], _∷_, _++_}
+use mathlib.Core.List.{List, [], _∷_, _++_, flatMap}
 use Prim.Native.Nat.{ℕ, _+_, _*_}
+use native.Mathlib.Omega.{arith}
 use Rattle.bits.specs.Bits.{sumBits, putBit, fromBits}
-use Rattle.bits.specs.declared.BitRefusal.the-variants.{TooLongForType, OutOfBits, OutOfBytes, NonAlignedBit, BufferTooLong}
+use Rattle.bits.specs.declared.BitRefusal.the-variants.{TooLongForType, OutOfBits, OutOfBytes, NonAlignedBit}
 use Rattle.bits.specs.declared.Moved.the-variants as moved
 use Rattle.bits.specs.declared.ReadU64.the-variants as read64
 use Rattle.bits.specs.declared.ReadSlice.the-variants as slice
@@ -24,11 +25,13 @@ use Rattle.descriptor.specs.declared.FieldDescriptor.{FieldDescriptor}
 use Rattle.descriptor.specs.declared.Resolution.the-variants.{Unscaled}
 use Rattle.descriptor.specs.declared.Encoding.{Encoding}
 use Rattle.descriptor.specs.declared.Encoding.the-variants as encoding
-use Rattle.descriptor.specs.declared.Availability.the-variants.{NotAvailable}
+use Rattle.descriptor.specs.declared.Availability.the-variants.{Available, NotAvailable}
+use Rattle.descriptor.specs.declared.PgnValue.the-variants.{U16}
 use Rattle.tables.specs.Table.{Table, tableOf}
 use Rattle.tables.specs.Rules.{inSets, declaredBits}
 use Rattle.tables.specs.Check.{foundFrom}
 use Rattle.tables.specs.declared.TableRule.the-variants as rule
+use Rattle.walking.specs.declared.Element.the-variants.{Outside, At}
 use Rattle.walking.specs.Runs.{guard, after, andThen, times}
 use Rattle.walking.specs.Walk.{check, lift, placeFrom, elementAt, groupAt, fieldBy, fieldAt, walkFrom}
 use Rattle.fields.specs.declared.DecodeRefusal.the-variants.{BitReaderError, InvalidDataLength, RepetitionsExceedCapacity, WrongLength, TableRefused, NoRoom}
@@ -46,7 +49,6 @@ use Rattle.text.specs.Refusals.{carriedTexts}
 use Rattle.lines.specs.Machine.{upToNewline, textFrom, isOpen}
 use Rattle.lines.proofs.Whole.{line-printed, open-printed}
 use Rattle.frame_lines.specs.Lines.{readingLine, frameLine, endLine, refusalLine, unknownLine}
-use Rattle.frame_lines.specs.Decode.{readingLines}
 use Rattle.printing.specs.Text.{answered, printed}
 
 -- Bit calls.
@@ -164,39 +166,39 @@ abbrev lines : List ℕ
 lines = 80 ∷ 32 ∷ 48 ∷ 49 ∷ 70 ∷ 56 ∷ 48 ∷ 50 ∷ 32 ∷ 56 ∷ 10 ∷ 82 ∷ 32 ∷ 48 ∷ 32 ∷ 45 ∷ 32 ∷ 48 ∷ 32 ∷ 56 ∷ 32 ∷ 65 ∷ 32 ∷ 50 ∷ 65 ∷ 10 ∷ 82 ∷ 32 ∷ 49 ∷ 32 ∷ 45 ∷ 32 ∷ 56 ∷ 32 ∷ 50 ∷ 32 ∷ 65 ∷ 32 ∷ 48 ∷ 10 ∷ 82 ∷ 32 ∷ 51 ∷ 32 ∷ 45 ∷ 32 ∷ 49 ∷ 54 ∷ 32 ∷ 49 ∷ 54 ∷ 32 ∷ 65 ∷ 32 ∷ 51 ∷ 68 ∷ 53 ∷ 67 ∷ 10 ∷ 82 ∷ 32 ∷ 52 ∷ 32 ∷ 45 ∷ 32 ∷ 51 ∷ 50 ∷ 32 ∷ 49 ∷ 54 ∷ 32 ∷ 65 ∷ 32 ∷ 57 ∷ 56 ∷ 67 ∷ 48 ∷ 10 ∷ 69 ∷ 32 ∷ 54 ∷ 52 ∷ 10 ∷ []
 
 worked : answered line ≡ lines
-unfolding readingLine frameLine endLine readingLines higher fixed allDigits spelledFrom pairsOf readings notedTo sumBits guard after andThen times check lift placeFrom elementAt groupAt fieldBy fieldAt walkFrom inSets declaredBits foundFrom ofBits ofFields odd le lt eq
+unfolding readingLine frameLine endLine flatMap higher fixed allDigits spelledFrom pairsOf readings notedTo sumBits guard after andThen times check lift placeFrom elementAt groupAt fieldBy fieldAt walkFrom inSets declaredBits foundFrom ofBits ofFields odd le lt eq
 worked = refl
 
 -- the line by itself, with its newline and without
 worked-line : (printed (line ++ 10 ∷ []) ≡ lines) × (printed line ≡ lines)
-unfolding upToNewline isOpen
-worked-line = (line-printed answered line refl refl ∙ worked, open-printed answered line refl refl ∙ worked)
+unfolding upToNewline
+worked-line = (line-printed answered line refl ∙ worked, open-printed answered line refl (omega arith) ∙ worked)
 
 -- F 14, of a small letter and of an empty line
 small-letter : printed (48 ∷ 49 ∷ 102 ∷ 56 ∷ 48 ∷ 50 ∷ 10 ∷ 10 ∷ [])
     ≡ 70 ∷ 32 ∷ 49 ∷ 52 ∷ 10 ∷ 70 ∷ 32 ∷ 49 ∷ 52 ∷ 10 ∷ []
-unfolding textFrom isOpen readingLine frameLine endLine refusalLine unknownLine readingLines carriedTexts higher fixed allDigits spelledFrom pairsOf readings notedTo sumBits guard after andThen times check lift placeFrom elementAt groupAt fieldBy fieldAt walkFrom inSets declaredBits foundFrom ofBits ofFields odd le lt eq
+unfolding textFrom isOpen readingLine frameLine endLine refusalLine unknownLine flatMap carriedTexts higher fixed allDigits spelledFrom pairsOf readings notedTo sumBits guard after andThen times check lift placeFrom elementAt groupAt fieldBy fieldAt walkFrom inSets declaredBits foundFrom ofBits ofFields odd le lt eq
 small-letter = refl
 
 -- F 15 01F803
 unknown-pgn : printed (48 ∷ 49 ∷ 70 ∷ 56 ∷ 48 ∷ 51 ∷ 10 ∷ [])
     ≡ 70 ∷ 32 ∷ 49 ∷ 53 ∷ 32 ∷ 48 ∷ 49 ∷ 70 ∷ 56 ∷ 48 ∷ 51 ∷ 10 ∷ []
-unfolding textFrom isOpen readingLine frameLine endLine refusalLine unknownLine readingLines carriedTexts higher fixed allDigits spelledFrom pairsOf readings notedTo sumBits guard after andThen times check lift placeFrom elementAt groupAt fieldBy fieldAt walkFrom inSets declaredBits foundFrom ofBits ofFields odd le lt eq
+unfolding textFrom isOpen readingLine frameLine endLine refusalLine unknownLine flatMap carriedTexts higher fixed allDigits spelledFrom pairsOf readings notedTo sumBits guard after andThen times check lift placeFrom elementAt groupAt fieldBy fieldAt walkFrom inSets declaredBits foundFrom ofBits ofFields odd le lt eq
 unknown-pgn = refl
 
 -- a number cut short: F 4 1
 cut-short : printed (48 ∷ 49 ∷ 70 ∷ 56 ∷ 48 ∷ 50 ∷ 50 ∷ 65 ∷ 10 ∷ [])
     ≡ 80 ∷ 32 ∷ 48 ∷ 49 ∷ 70 ∷ 56 ∷ 48 ∷ 50 ∷ 32 ∷ 49 ∷ 10 ∷ 82 ∷ 32 ∷ 48 ∷ 32 ∷ 45 ∷ 32 ∷ 48 ∷ 32 ∷ 56 ∷ 32 ∷ 65 ∷ 32 ∷ 50 ∷ 65 ∷ 10 ∷ 70 ∷ 32 ∷ 52 ∷ 32 ∷ 49 ∷ 10 ∷ []
-unfolding textFrom isOpen readingLine frameLine endLine refusalLine unknownLine readingLines carriedTexts higher fixed allDigits spelledFrom pairsOf readings notedTo sumBits guard after andThen times check lift placeFrom elementAt groupAt fieldBy fieldAt walkFrom inSets declaredBits foundFrom ofBits ofFields odd le lt eq
+unfolding textFrom isOpen readingLine frameLine endLine refusalLine unknownLine flatMap carriedTexts higher fixed allDigits spelledFrom pairsOf readings notedTo sumBits guard after andThen times check lift placeFrom elementAt groupAt fieldBy fieldAt walkFrom inSets declaredBits foundFrom ofBits ofFields odd le lt eq
 cut-short = refl
 
 -- a Reserved field cut short: F 2 5 16 0
 reserved-short : printed (48 ∷ 49 ∷ 70 ∷ 56 ∷ 48 ∷ 50 ∷ 50 ∷ 65 ∷ 70 ∷ 67 ∷ 53 ∷ 67 ∷ 51 ∷ 68 ∷ 67 ∷ 48 ∷ 57 ∷ 56 ∷ 10 ∷ [])
     ≡ 80 ∷ 32 ∷ 48 ∷ 49 ∷ 70 ∷ 56 ∷ 48 ∷ 50 ∷ 32 ∷ 54 ∷ 10 ∷ 82 ∷ 32 ∷ 48 ∷ 32 ∷ 45 ∷ 32 ∷ 48 ∷ 32 ∷ 56 ∷ 32 ∷ 65 ∷ 32 ∷ 50 ∷ 65 ∷ 10 ∷ 82 ∷ 32 ∷ 49 ∷ 32 ∷ 45 ∷ 32 ∷ 56 ∷ 32 ∷ 50 ∷ 32 ∷ 65 ∷ 32 ∷ 48 ∷ 10 ∷ 82 ∷ 32 ∷ 51 ∷ 32 ∷ 45 ∷ 32 ∷ 49 ∷ 54 ∷ 32 ∷ 49 ∷ 54 ∷ 32 ∷ 65 ∷ 32 ∷ 51 ∷ 68 ∷ 53 ∷ 67 ∷ 10 ∷ 82 ∷ 32 ∷ 52 ∷ 32 ∷ 45 ∷ 32 ∷ 51 ∷ 50 ∷ 32 ∷ 49 ∷ 54 ∷ 32 ∷ 65 ∷ 32 ∷ 57 ∷ 56 ∷ 67 ∷ 48 ∷ 10 ∷ 70 ∷ 32 ∷ 50 ∷ 32 ∷ 53 ∷ 32 ∷ 49 ∷ 54 ∷ 32 ∷ 48 ∷ 10 ∷ []
-unfolding textFrom isOpen readingLine frameLine endLine refusalLine unknownLine readingLines carriedTexts higher fixed allDigits spelledFrom pairsOf readings notedTo sumBits guard after andThen times check lift placeFrom elementAt groupAt fieldBy fieldAt walkFrom inSets declaredBits foundFrom ofBits ofFields odd le lt eq
+unfolding textFrom isOpen readingLine frameLine endLine refusalLine unknownLine flatMap carriedTexts higher fixed allDigits spelledFrom pairsOf readings notedTo sumBits guard after andThen times check lift placeFrom elementAt groupAt fieldBy fieldAt walkFrom inSets declaredBits foundFrom ofBits ofFields odd le lt eq
 reserved-short = refl
 
--- one line for each refusal of a decode, 1 and 6 too, which none gives
+-- one line for each refusal of a decode, and 1, which none gives; 6 is of a bit call alone
 refusal-lines :
     (refusalLine (BitReaderError 3 (TooLongForType 64 65)) ≡ 70 ∷ 32 ∷ 49 ∷ 32 ∷ 51 ∷ 32 ∷ 54 ∷ 52 ∷ 32 ∷ 54 ∷ 53 ∷ 10 ∷ [])
     × (refusalLine (BitReaderError 5 (OutOfBits (bits 16) (bits 0))) ≡ 70 ∷ 32 ∷ 50 ∷ 32 ∷ 53 ∷ 32 ∷ 49 ∷ 54 ∷ 32 ∷ 48 ∷ 10 ∷ [])
@@ -204,9 +206,17 @@ refusal-lines :
     × (refusalLine (BitReaderError 1 (NonAlignedBit (bits 12))) ≡ 70 ∷ 32 ∷ 51 ∷ 32 ∷ 49 ∷ 32 ∷ 49 ∷ 50 ∷ 10 ∷ [])
     × (refusalLine (InvalidDataLength 3) ≡ 70 ∷ 32 ∷ 52 ∷ 32 ∷ 51 ∷ 10 ∷ [])
     × (refusalLine (RepetitionsExceedCapacity 0 46 45) ≡ 70 ∷ 32 ∷ 53 ∷ 32 ∷ 48 ∷ 32 ∷ 52 ∷ 54 ∷ 32 ∷ 52 ∷ 53 ∷ 10 ∷ [])
-    × (refusalLine (BitReaderError 0 (BufferTooLong (bytes 65537))) ≡ 70 ∷ 32 ∷ 54 ∷ 32 ∷ 48 ∷ 32 ∷ 54 ∷ 53 ∷ 53 ∷ 51 ∷ 55 ∷ 10 ∷ [])
     × (refusalLine (WrongLength (bytes 224)) ≡ 70 ∷ 32 ∷ 55 ∷ 32 ∷ 50 ∷ 50 ∷ 52 ∷ 10 ∷ [])
     × (refusalLine (TableRefused rule.C 0) ≡ 70 ∷ 32 ∷ 56 ∷ 32 ∷ 99 ∷ 32 ∷ 48 ∷ 10 ∷ [])
     × (refusalLine (NoRoom 17) ≡ 70 ∷ 32 ∷ 57 ∷ 32 ∷ 49 ∷ 55 ∷ 10 ∷ [])
 unfolding refusalLine carriedTexts higher
-refusal-lines = (refl, refl, refl, refl, refl, refl, refl, refl, refl, refl)
+refusal-lines = (refl, refl, refl, refl, refl, refl, refl, refl, refl)
+
+-- "N is not available", with an element; "a raw that is none prints place:length in decimal"
+reading-lines :
+    (readingLine (record { field = 17; element = At 1; start = bits 376; bits = bits 16; raw = raw.Number 0xFFFF; value = U16 0xFFFF; availability = NotAvailable })
+    ≡ 82 ∷ 32 ∷ 49 ∷ 55 ∷ 32 ∷ 49 ∷ 32 ∷ 51 ∷ 55 ∷ 54 ∷ 32 ∷ 49 ∷ 54 ∷ 32 ∷ 78 ∷ 32 ∷ 70 ∷ 70 ∷ 70 ∷ 70 ∷ 10 ∷ [])
+    × (readingLine (record { field = 2; element = Outside; start = bits 8; bits = bits 32; raw = raw.Absent; value = textAt 2 12 encoding.Absent; availability = Available })
+    ≡ 82 ∷ 32 ∷ 50 ∷ 32 ∷ 45 ∷ 32 ∷ 56 ∷ 32 ∷ 51 ∷ 50 ∷ 32 ∷ 65 ∷ 32 ∷ 50 ∷ 58 ∷ 49 ∷ 50 ∷ 10 ∷ [])
+unfolding readingLine higher
+reading-lines = (refl, refl)

@@ -2,6 +2,8 @@
 mod Lists
 -- where a part ends, and the parts from a place on
 pub mod Cuts
+-- the place of a name, word by word
+mod Naming
 -- digits one after the other, and when a text is a number
 pub mod Spelling
 -- what is stored, one value after the other, and when
@@ -10,3 +12,5 @@ pub mod Filling
 pub mod Back
 -- every contract leaves one answer and one content of each lent buffer
 mod OneAnswer
+-- what a call leaves in a buffer: the values that a text has, or nothing
+pub mod Stored

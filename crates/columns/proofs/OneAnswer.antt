@@ -8,6 +8,8 @@ use Rattle.columns.proofs.parts.part_end.Reads as part-end
 use Rattle.columns.proofs.parts.field_end.Reads as field-end
 use Rattle.columns.proofs.parts.word.Reads as word
 use Rattle.columns.proofs.parts.marks.Reads as marks
+use Rattle.columns.proofs.names.same.Reads as same
+use Rattle.columns.proofs.names.place_in.Reads as place-in
 use Rattle.columns.proofs.figures.decimal.Reads as decimal
 use Rattle.columns.proofs.figures.hex.Reads as hex
 use Rattle.columns.proofs.runs.words.Reads as words
@@ -28,6 +30,12 @@ one-word = fixed (λ κs a x s p. p)
 
 one-marks : Fixes marks.Post (λ κs x s. x)
 one-marks = fixed (λ κs a x s p. p)
+
+one-same : Fixes same.Post (λ κs x s. x)
+one-same = fixed (λ κs a x s p. p)
+
+one-place-in : Fixes place-in.Post (λ κs x s. x)
+one-place-in = fixed (λ κs a x s p. p)
 
 one-decimal : Fixes decimal.Post (λ κs x s. x)
 one-decimal = fixed (λ κs a x s p. p)

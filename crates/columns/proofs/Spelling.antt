@@ -1,14 +1,16 @@
 -- Digits one after the other, and when a text is a number. Assumes nothing.
-use mathlib.Core.Path.{_≡_, ap, _∙_}
+use mathlib.Core.Path.{_≡_, refl, sym, ap, _∙_}
 use mathlib.Core.Bool.{Bool, true, false, _&&_, and-false}
 use mathlib.Core.List.{List, [], _∷_}
-use Prim.Native.Nat.{ℕ, _+_, _-_, _*_, _/_, _^_, _≤_, _<_}
+use Prim.Native.Nat.{ℕ, suc, _+_, _-_, _*_, _/_, _^_, _≤_, _<_}
 use native.Mathlib.Omega.{arith}
-use native.Mathlib.Nat.{mul-le-mul-left, le-div-iff-mul-le, div-lt-iff-lt-mul}
-use borrow.Author.Tests.{lt-ltb, le-ltb, le-leb, lt-leb}
+use native.Mathlib.Nat.{mul-assoc, mul-le-mul-left, mul-le-mul-right, pow-zero, pow-succ', one-le-pow, le-div-iff-mul-le, div-lt-iff-lt-mul}
+use borrow.Author.Tests.{lt-ltb, le-ltb, le-leb, lt-leb, ltb-true}
+use lib.Dec.{leb, ltb}
 use lib.ListN.{length, drop, getD, drop-of-length-le}
 use Rattle.hexadecimal.specs.Digits.{valueOf}
-use Rattle.columns.specs.Numbers.{number, noNumber, allBelow, spelledIn, numberIn}
+use Rattle.hexadecimal.proofs.Inverse.{both}
+use Rattle.columns.specs.Numbers.{number, noNumber, numberIf, allBelow, spelledIn, numberIn}
 use Rattle.columns.proofs.Lists.{next}
 
 module _ (base : ℕ) (s : List ℕ) (i : ℕ) where
@@ -40,6 +42,40 @@ grows base v (b ∷ bs) h =
     let one : v * 1 ≤ v * base = mul-le-mul-left v h in
     let rest = grows base (v * base + valueOf b) bs h in
     omega arith
+
+-- ## How large a number of so many digits is
+
+heads : (base b : ℕ) (bs : List ℕ) → allBelow base (b ∷ bs) ≡ true → (valueOf b < base) × (allBelow base bs ≡ true)
+unfolding allBelow
+heads base b bs e =
+    let two = both (ltb (valueOf b) base) (allBelow base bs) e in
+    (ltb-true (valueOf b) base (two .0), two .1)
+
+-- digits after those of v
+spelled-below : (base v : ℕ) (s : List ℕ) → allBelow base s ≡ true → spelledIn base v s < suc v * base ^ length s
+unfolding spelledIn
+spelled-below base v [] e =
+    let power : suc v * base ^ 0 ≡ suc v * 1 = ap (λ (n : ℕ). suc v * n) (pow-zero base) in
+    let less : v < suc v * base ^ 0 = omega (arith, power) in
+    less
+spelled-below base v (b ∷ bs) e =
+    let h = heads base b bs e in
+    let rest = spelled-below base (v * base + valueOf b) bs (h .1) in
+    let one : suc (v * base + valueOf b) ≤ suc v * base = omega (arith, h .0) in
+    let all : suc (v * base + valueOf b) * base ^ length bs ≤ suc v * base * base ^ length bs = mul-le-mul-right (base ^ length bs) one in
+    let power : suc v * base * base ^ length bs ≡ suc v * base ^ suc (length bs) = mul-assoc (suc v) base (base ^ length bs) ∙ ap (λ (n : ℕ). suc v * n) (sym (pow-succ' base (length bs))) in
+    omega (arith, rest, all, power)
+
+-- a text that is no number counts as 0
+pub number-below : (base most : ℕ) (s : List ℕ) → 0 < base → numberIn base most s .value < base ^ length s
+unfolding numberIn
+number-below base most s h = by (ltb 0 (length s) && leb (length s) most) (allBelow base s) (ltb (spelledIn base 0 s) (2 ^ 64)) refl
+  where
+    by : (x y z : Bool) → allBelow base s ≡ y → numberIf (x && y && z) (spelledIn base 0 s) .value < base ^ length s
+    by true true true e = omega (arith, spelled-below base 0 s e)
+    by true true false e = one-le-pow (length s) base h
+    by true false z e = one-le-pow (length s) base h
+    by false y z e = one-le-pow (length s) base h
 
 -- ## When a text is a number
 

@@ -2,7 +2,7 @@
 use Prim.Native.Nat.{ℕ, suc, _+_, min}
 use mathlib.Core.List.{List, [], _∷_}
 use lib.Dec.{eqb}
-use lib.ListN.{length, drop}
+use lib.ListN.{length, drop, getD}
 use Rattle.bits.specs.Bits.{pick}
 
 abbrev pub space : ℕ
@@ -26,6 +26,10 @@ longer b (p ∷ ps) = (b ∷ p) ∷ ps
 unfoldable pub partsOf : ℕ → List ℕ → List (List ℕ)
 partsOf mark [] = [] ∷ []
 partsOf mark (b ∷ bs) = pick (eqb b mark) ([] ∷ partsOf mark bs) (longer b (partsOf mark bs))
+
+-- the field at place i of a line, counted from 0; empty where there are not so many
+abbrev pub field : List ℕ → ℕ → List ℕ
+field line i = getD (partsOf space line) i []
 
 -- how many marks there are
 unfoldable pub marksIn : ℕ → List ℕ → ℕ

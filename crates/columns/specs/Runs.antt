@@ -49,6 +49,18 @@ bytesIn [] old = filled noRun old
 bytesIn (b ∷ []) old = filledIf (eqb b dash) [] old
 bytesIn (b ∷ c ∷ bs) old = pairsIn (b ∷ c ∷ bs) old
 
+-- the same as a test and what it finds: at most so many bytes
+abbrev pub isBytes : ℕ → List ℕ → Bool
+isBytes most [] = false
+isBytes most (b ∷ []) = eqb b dash
+isBytes most (b ∷ c ∷ bs) = eqb (length (b ∷ c ∷ bs) % 2) 0 && leb (length (b ∷ c ∷ bs) / 2) most && allDigits (b ∷ c ∷ bs)
+
+-- .. and these are the bytes
+abbrev pub bytesOf : List ℕ → List ℕ
+bytesOf [] = []
+bytesOf (b ∷ []) = []
+bytesOf (b ∷ c ∷ bs) = pairsOf (b ∷ c ∷ bs)
+
 -- each part is a number, in hexadecimal
 unfoldable pub allNumbers : List (List ℕ) → Bool
 allNumbers [] = true
@@ -61,3 +73,7 @@ valuesOf ps = map (λ (p : List ℕ). hexIn p .value) ps
 -- numbers in hexadecimal, which a mark sets apart, where there is room for them
 unfoldable pub wordsIn : ℕ → List ℕ → List ℕ → Filled
 wordsIn mark s old = filledIf (allNumbers (partsOf mark s) && leb (length (partsOf mark s)) (length old)) (valuesOf (partsOf mark s)) old
+
+-- the same as a test: at most so many numbers, which are `valuesOf` the parts
+abbrev pub isWords : ℕ → ℕ → List ℕ → Bool
+isWords mark most s = allNumbers (partsOf mark s) && leb (length (partsOf mark s)) most

@@ -1,9 +1,8 @@
 // The parts of a text, which a mark sets apart.
 ghost use Prim.Native.Nat.{_-_, _≤_};
 ghost use mathlib.Core.Path.{_≡_};
-ghost use mathlib.Core.List.{[]};
-ghost use lib.ListN.{length, getD, take, drop};
-ghost use Rattle.columns.specs.Parts.{space, partEnd, partsOf, marksIn};
+ghost use lib.ListN.{length, take, drop};
+ghost use Rattle.columns.specs.Parts.{space, partEnd, field, marksIn};
 use bits::ByteCount;
 use bits::Part;
 use bits::least;
@@ -45,7 +44,7 @@ pub fn field_end(s: &[u8], from: usize) -> usize
 
 // The field at place i, counted from 0; empty where there are not so many.
 pub fn word(s: &[u8], i: usize) -> &[u8]
-    ensures { λ r. ⌜ now r ≡ getD (partsOf space (now (s .entry))) i [] ⌝ }
+    ensures { λ r. ⌜ now r ≡ field (now (s .entry)) i ⌝ }
 {
     let mut from = 0;
     let mut k = 0;

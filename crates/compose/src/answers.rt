@@ -1,4 +1,7 @@
-// The lines of an answer.
+// What came of an encode, and of a line that asks for none.
+ghost use Rattle.text.specs.Sheet.{Puts};
+ghost use Rattle.frame_lines.specs.Lines.{malformedLine};
+ghost use Rattle.compose.specs.Answers.{refusalText, payloadText, madeText, outcomeText, bufferText};
 use columns::part;
 use text::put;
 use text::put_bytes;
@@ -13,8 +16,10 @@ use writing::Encoded;
 // How many digits a PGN has.
 const PGN_DIGITS: usize = 6;
 
-// The encode was refused.
-fn put_refusal(out: &mut [u8], at: usize, e: EncodeRefusal) -> usize {
+// The encode was refused. No refusal carries more than three values.
+fn put_refusal(out: &mut [u8], at: usize, e: EncodeRefusal) -> usize
+    ensures { λ r. ⌜ Puts (now (out .entry)) at (refusalText e) (now (out .exit)) r ⌝ }
+{
     let number = e.number() as usize;
     let count = e.carried_count();
     let first = e.carried(0);
@@ -23,33 +28,34 @@ fn put_refusal(out: &mut [u8], at: usize, e: EncodeRefusal) -> usize {
     put_refused(out, at, number, count, first, second, third)
 }
 
-// The frame: its PGN and the bytes used.
-fn put_frame(out: &mut [u8], at: usize, pgn: u32, payload: &[u8], used: usize) -> usize {
+// A frame: its PGN and the bytes used.
+fn put_payload(out: &mut [u8], at: usize, pgn: u32, payload: &[u8], used: usize) -> usize
+    ensures { λ r. ⌜ Puts (now (out .entry)) at (payloadText pgn (now (payload .entry)) used) (now (out .exit)) r ⌝ }
+{
     let a = put_fixed_hex(out, at, pgn as u64, PGN_DIGITS);
     put_pairs(out, a, part(payload, 0, used))
 }
 
 // What came of a message: its frame, or the refusal.
-fn put_made(out: &mut [u8], at: usize, pgn: u32, payload: &[u8], encoded: Encoded) -> usize {
-    match encoded {
-        Encoded::Ended(used) => put_frame(out, at, pgn, payload, used.0),
-        Encoded::Refused(e) => put_refusal(out, at, e),
-    }
-}
-
-pub(crate) fn put_message(
+pub(crate) fn put_made(
     out: &mut [u8],
     at: usize,
     pgn: u32,
     payload: &[u8],
     encoded: Encoded,
-) -> usize {
-    let to = put_made(out, at, pgn, payload, encoded);
-    put(out, to, b'\n')
+) -> usize
+    ensures { λ r. ⌜ Puts (now (out .entry)) at (madeText pgn (now (payload .entry)) encoded) (now (out .exit)) r ⌝ }
+{
+    match encoded {
+        Encoded::Ended(used) => put_payload(out, at, pgn, payload, used.0),
+        Encoded::Refused(e) => put_refusal(out, at, e),
+    }
 }
 
 // The bytes used, or the refusal.
-fn put_outcome(out: &mut [u8], at: usize, encoded: Encoded) -> usize {
+pub(crate) fn put_outcome(out: &mut [u8], at: usize, encoded: Encoded) -> usize
+    ensures { λ r. ⌜ Puts (now (out .entry)) at (outcomeText encoded) (now (out .exit)) r ⌝ }
+{
     match encoded {
         Encoded::Ended(used) => {
             let a = put(out, at, b'E');
@@ -59,10 +65,18 @@ fn put_outcome(out: &mut [u8], at: usize, encoded: Encoded) -> usize {
     }
 }
 
-// What came of a table, and the buffer after the call.
-pub(crate) fn put_encoded(out: &mut [u8], at: usize, encoded: Encoded, buffer: &[u8]) -> usize {
-    let a = put_outcome(out, at, encoded);
-    let b = put_text(out, a, b"\nD ");
-    let c = put_bytes(out, b, buffer);
-    put(out, c, b'\n')
+// The buffer after the call, on a line of its own.
+pub(crate) fn put_buffer(out: &mut [u8], at: usize, buffer: &[u8]) -> usize
+    ensures { λ r. ⌜ Puts (now (out .entry)) at (bufferText (now (buffer .entry))) (now (out .exit)) r ⌝ }
+{
+    let a = put_text(out, at, b"\nD ");
+    let b = put_bytes(out, a, buffer);
+    put(out, b, b'\n')
+}
+
+// 14, alone.
+pub(crate) fn put_malformed(out: &mut [u8], at: usize) -> usize
+    ensures { λ r. ⌜ Puts (now (out .entry)) at malformedLine (now (out .exit)) r ⌝ }
+{
+    put_text(out, at, b"F 14\n")
 }

@@ -29,10 +29,15 @@
 //
 // USED counts bytes. F 8 carries the rule's letter and the index.
 //
-// Promise: as that of `textio`. A line that is neither, or is over 8,192 bytes, is answered F 14 alone;
-// then a PGN that is not built in F 15 with the PGN. The last line may lack its newline.
+// Promise: any bytes may come, and any number of them; the memory used stays the same. A line that is
+// neither, or is over 8,192 bytes, is answered F 14 alone; then a PGN that is not built in F 15 with the
+// PGN. The last line may lack its newline.
+//
+// What is answered is specs/Answers.antt; that it does not depend on the chunks, and that no answer
+// waits for room forever, is proofs/Stream.antt. Here is only read and written.
 mod answers;
 mod decimals;
+mod encodes;
 mod entries;
 mod orders;
 
@@ -41,28 +46,23 @@ const NAME: [u8; 7] = *b"compose";
 fn main() {
     let mut input = io::large_buffer();
     let mut line = [0u8; 8192];
-    let mut values = [0u8; entries::VALUES_BYTES];
-    // Two digits of a line are a byte of text, so there is always room.
-    let mut lent = [0u8; 4096];
     let mut page = io::large_buffer();
-    run(&mut input, &mut line, &mut values, &mut lent, &mut page);
+    run(&mut input, &mut line, &mut page);
 }
 
 // A proved loop has to end, and nothing says that the input does. So the loop counts its turns down,
 // from a number that no run uses up.
-fn run(input: &mut [u8], line: &mut [u8], values: &mut [u8], lent: &mut [u8], page: &mut [u8]) {
+fn run(input: &mut [u8], line: &mut [u8], page: &mut [u8]) {
     let mut turns = u64::MAX;
     let mut at = textio::start();
     let mut held = lines::nothing();
-    let mut waits = false;
-    while turns > 0 && at.open {
+    while turns > 0 && at.more {
+        turns -= 1;
         at = textio::fetch(&NAME, input, at);
         let from = at.from;
         let to = at.to;
-        let p = orders::pass(held, waits, line, values, lent, &input[from..to], page, 0);
+        let p = orders::pass(held, at.waits, line, &input[from..to], page, 0);
         held = p.held;
-        waits = p.waits;
-        at = textio::store(&NAME, page, p.to, p.taken, at);
-        turns -= 1;
+        at = textio::store(&NAME, page, p.to, p.taken, p.waits, at);
     }
 }

@@ -1,11 +1,11 @@
 -- What a refusal of a decode carries: at most three values. Assumes nothing.
-use mathlib.Core.Path.{_≡_, refl, sym, ap, _∙_}
-use mathlib.Core.List.{List, [], _∷_}
+use mathlib.Core.Path.{_≡_}
+use mathlib.Core.List.{[], _∷_}
 use Prim.Native.Nat.{ℕ, _≤_}
 use native.Mathlib.Omega.{arith}
 use lib.ListN.{length, take, getD}
 use Rattle.text.specs.Refusals.{refusedText}
-use Rattle.text.proofs.Carrying.{listed}
+use Rattle.text.proofs.Carrying as carried
 use Rattle.bits.specs.declared.BitRefusal.{BitRefusal}
 use Rattle.bits.specs.declared.BitRefusal.the-variants.{BufferTooLong, TooLongForType, NonAlignedBit, OutOfBits, OutOfBytes}
 use Rattle.bits.specs.Refusals as bit
@@ -13,7 +13,7 @@ use Rattle.fields.specs.declared.DecodeRefusal.{DecodeRefusal}
 use Rattle.fields.specs.declared.DecodeRefusal.the-variants.{BitReaderError, InvalidDataLength, RepetitionsExceedCapacity, WrongLength, TableRefused, NoRoom}
 use Rattle.fields.specs.Refusals.{numberOf, carriedOf}
 
-bit-few : (e : BitRefusal) → length (bit.carriedOf e) ≤ 2
+pub bit-few : (e : BitRefusal) → length (bit.carriedOf e) ≤ 2
 bit-few (TooLongForType max asked) = omega arith
 bit-few (OutOfBits asked available) = omega arith
 bit-few (OutOfBytes asked available) = omega arith
@@ -32,10 +32,4 @@ few (NoRoom field) = omega arith
 pub carried-all : (e : DecodeRefusal) {number count first second third : ℕ} → number ≡ numberOf e → count ≡ length (carriedOf e)
     → first ≡ getD (carriedOf e) 0 0 → second ≡ getD (carriedOf e) 1 0 → third ≡ getD (carriedOf e) 2 0
     → refusedText number (take count (first ∷ second ∷ third ∷ [])) ≡ refusedText (numberOf e) (carriedOf e)
-carried-all e {number} {count} {first} {second} {third} n k a b c =
-    ap (λ (x : ℕ). refusedText x (take count (first ∷ second ∷ third ∷ []))) n
-    ∙ ap (λ (x : ℕ). refusedText (numberOf e) (take x (first ∷ second ∷ third ∷ []))) k
-    ∙ ap (λ (x : ℕ). refusedText (numberOf e) (take (length (carriedOf e)) (x ∷ second ∷ third ∷ []))) a
-    ∙ ap (λ (x : ℕ). refusedText (numberOf e) (take (length (carriedOf e)) (getD (carriedOf e) 0 0 ∷ x ∷ third ∷ []))) b
-    ∙ ap (λ (x : ℕ). refusedText (numberOf e) (take (length (carriedOf e)) (getD (carriedOf e) 0 0 ∷ getD (carriedOf e) 1 0 ∷ x ∷ []))) c
-    ∙ ap (refusedText (numberOf e)) (listed (carriedOf e) (few e))
+carried-all e n k a b c = carried.carried-all (numberOf e) (carriedOf e) (few e) n k a b c

@@ -1,10 +1,10 @@
 -- No line is longer than 130 bytes, and the text of a walk no longer than those of its readings and one more. Assumes nothing.
-use mathlib.Core.Bool.{Bool}
-use mathlib.Core.List.{List, [], _∷_, _++_}
+use mathlib.Core.Path.{_≡_}
+use mathlib.Core.List.{List, [], _∷_, _++_, flatMap}
 use Prim.Native.Nat.{ℕ, _+_, _*_, _≤_, _<_}
 use native.Mathlib.Omega.{arith}
-use lib.ListN.{length, length-append}
-use Rattle.text.specs.Digits.{decimalOf, hexOf, spaced}
+use lib.ListN.{length}
+use Rattle.text.specs.Digits.{decimalOf, spaced}
 use Rattle.text.specs.Refusals.{refusedText}
 use Rattle.text.proofs.Sizes.{plus, decimal-size, hex-size, fixed-size, spaced-size, refused-size}
 use Rattle.descriptor.specs.declared.Availability.{Availability}
@@ -36,7 +36,7 @@ availability-size : (a : Availability) → length (availabilityText a) ≤ 3
 availability-size Available = omega arith
 availability-size NotAvailable = omega arith
 
-value-size : (x : PgnValue) → length (valueText x) ≤ 41
+pub value-size : (x : PgnValue) → length (valueText x) ≤ 41
 value-size (U64 x) = omega arith
 value-size (U32 x) = omega arith
 value-size (U16 x) = omega arith
@@ -53,7 +53,7 @@ raw-size : (r : Raw) (x : PgnValue) → length (rawText r x) ≤ 41
 raw-size (Number n) x = omega (arith, hex-size n .1)
 raw-size Absent x = value-size x
 
-head-size : (r : Reading) → length (headText r) ≤ 88
+pub head-size : (r : Reading) → length (headText r) ≤ 88
 head-size r =
     let f = spaced (r .field) in
     let e = elementText (r .element) in
@@ -88,16 +88,19 @@ last-size : (d : Decoded) → length (lastLine d) ≤ 130
 last-size (decoded.Ended end count) = end-size (end .0)
 last-size (decoded.Refused e count) = refusal-size e
 
-lines-size : (rs : List Reading) → length (readingLines rs) ≤ length rs * 130
-unfolding readingLines
-lines-size [] = omega arith
-lines-size (r ∷ rs) = omega (arith, plus (readingLine r) (readingLines rs) 130 (length rs * 130) (reading-size r) (lines-size rs))
+-- readings by any text of at most n bytes
+pub texts-size : (text : Reading → List ℕ) (n : ℕ) → ((r : Reading) → length (text r) ≤ n) → (rs : List Reading) → length (flatMap text rs) ≤ length rs * n
+unfolding flatMap
+texts-size text n h [] = omega arith
+texts-size text n h (r ∷ rs) =
+    let more : length (r ∷ rs) * n ≡ n + length rs * n = omega arith in
+    omega (arith, plus (text r) (flatMap text rs) n (length rs * n) (h r) (texts-size text n h rs), more)
 
 -- a walk hands out no more readings than there is room for
 pub walk-size : (t : Table) (p : Payload) (room : ℕ) → length (walkText t p room) ≤ room * 130 + 130
 walk-size t p room =
     let rs = readings t p (spansOf (walkOf t p room)) in
-    omega (arith, plus (readingLines rs) (lastLine (endOf t p (walkOf t p room))) (length rs * 130) 130 (lines-size rs) (last-size (endOf t p (walkOf t p room))), seats.few t p room)
+    omega (arith, plus (readingLines rs) (lastLine (endOf t p (walkOf t p room))) (length rs * 130) 130 (texts-size readingLine 130 reading-size rs) (last-size (endOf t p (walkOf t p room))), seats.few t p room)
 
 -- ## The other lines
 pub frame-size : (pgn received : ℕ) → (0 < length (frameLine pgn received)) × (length (frameLine pgn received) ≤ 30)

@@ -1,6 +1,6 @@
 -- The text of a decode: document 01, the end of "Cases": a line for each reading, then the end, or the refusal "in place of E".
 use Prim.Native.Nat.{ℕ}
-use mathlib.Core.List.{List, [], _∷_, _++_}
+use mathlib.Core.List.{List, [], _++_, flatMap}
 use Rattle.tables.specs.Table.{Table}
 use Rattle.fields.specs.Payload.{Payload}
 use Rattle.reading.specs.declared.Reading.{Reading}
@@ -12,9 +12,8 @@ use Rattle.reading.specs.Decode.{walkOf, readings, spansOf, endOf}
 use Rattle.frame_lines.specs.Lines.{readingLine, endLine, refusalLine}
 
 -- a line for each reading, in order
-unfoldable pub readingLines : List Reading → List ℕ
-readingLines [] = []
-readingLines (r ∷ rs) = readingLine r ++ readingLines rs
+abbrev pub readingLines : List Reading → List ℕ
+readingLines rs = flatMap readingLine rs
 
 -- "E the end"; "A refusal prints F, [..] in place of E"
 abbrev pub lastLine : Decoded → List ℕ

@@ -5,9 +5,6 @@ use Rattle.one_answer.proofs.Fixes.{Fixes, fixed}
 use Rattle.frames.proofs.digest.empty_line.Reads as empty-line
 use Rattle.frames.proofs.digest.feed.Reads as feed
 use Rattle.frames.proofs.lookup.frame_of.Reads as frame-of
-use Rattle.frames.proofs.Frame.number.Reads as number
-use Rattle.frames.proofs.Frame.carried_count.Reads as carried-count
-use Rattle.frames.proofs.Frame.carried.Reads as carried
 
 one-empty-line : Fixes empty-line.Post (λ κs x s. x)
 one-empty-line = fixed (λ κs a x s p. p)
@@ -20,12 +17,3 @@ same-feed = fixed (λ κs a x s p. p .1)
 
 one-frame-of : Fixes frame-of.Post (λ κs x s. x)
 one-frame-of = fixed (λ κs a x s p. p)
-
-one-number : Fixes number.Post (λ κs x s. x)
-one-number = fixed (λ κs a x s p. p)
-
-one-carried-count : Fixes carried-count.Post (λ κs x s. x)
-one-carried-count = fixed (λ κs a x s p. p)
-
-one-carried : Fixes carried.Post (λ κs x s. x)
-one-carried = fixed (λ κs a x s p. p)

@@ -9,7 +9,6 @@
 // the message, as these definitions have it. No call has a `requires`.
 mod digest;
 mod lookup;
-mod refusals;
 
 pub use crate::digest::empty_line;
 pub use crate::digest::feed;
@@ -31,8 +30,8 @@ pub struct Fed {
     pub taken: usize,
 }
 
-// What a line is: a frame of a built-in message, with the bytes of its payload counted; or 14 or 15,
-// by specs/Refusals.antt.
+// What a line is: a frame of a built-in message, with the bytes of its payload counted; or 14 or 15, as
+// specs/Refusals.antt numbers them.
 pub enum Frame {
     Got {
         message: Message,

@@ -1,5 +1,5 @@
 -- A program prints what its lines alone say, if what it holds answers to the line so far: `R k l`, k is held of the line l. Assumes nothing.
-use mathlib.Core.Path.{_≡_, refl, ap₂}
+use mathlib.Core.Path.{_≡_, refl, ap, ap₂, _∙_}
 use mathlib.Core.Bool.{Bool, true, false}
 use mathlib.Core.List.{List, [], _∷_, _++_}
 use Prim.Native.Nat.{ℕ, suc, _+_, _<_}
@@ -8,7 +8,7 @@ use borrow.Author.Tests.{eqb-false}
 use lib.Dec.{eqb}
 use lib.ListN.{length, length-append}
 use Rattle.bits.specs.Bits.{pick}
-use Rattle.lines.specs.Machine.{Machine, newline, textFrom, plain}
+use Rattle.lines.specs.Machine.{Machine, newline, textFrom, plain, closed, textOf}
 
 -- lines of `most` bytes or more may be left out: no count holds their length
 module _ {K : Type 0} (m : Machine K) (answered : List ℕ → List ℕ) (most : ℕ) (R : K → List ℕ → Type 0)
@@ -28,3 +28,9 @@ module _ {K : Type 0} (m : Machine K) (answered : List ℕ → List ℕ) (most :
   unfolding textFrom
   alike k l [] r h = refl
   alike k l (b ∷ bs) r h = by-newline k l b bs (eqb b newline) refl r h (λ x y. alike x y bs)
+
+-- two programs that answer every line alike
+pub same-text : (f g : List ℕ → List ℕ) → ((line : List ℕ) → f line ≡ g line) → (input : List ℕ) → textOf f input ≡ textOf g input
+same-text f g e input =
+    alike (plain f) g (suc (length (closed input))) (λ k l. k ≡ l) (λ k l b n r. ap (λ (x : List ℕ). x ++ b ∷ []) r) (λ k l r. refl) (λ k l r h. ap f r ∙ e l) [] [] (closed input)
+    refl (omega arith)

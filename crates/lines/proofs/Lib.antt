@@ -6,6 +6,8 @@ mod Runs
 pub mod Conserved
 -- one call: it takes all of its chunk, or a line waits whose answer has no room
 pub mod Progress
+-- a chunk, call after call: enough calls take all of it, and no line is left to wait
+pub mod Drained
 -- any list of calls: all the text that is put, and what is still owed, are what is owed for all the input that is taken
 pub mod Stream
 -- what is held of a line so far, with what is to come, is what is held in the end
@@ -18,6 +20,8 @@ mod Taking
 pub mod Alike
 -- the holder of lines is exact: a line that is too long for the buffer counts as an empty one
 pub mod Capped
+-- a program that holds its lines keeps its promise
+pub mod Programs
 -- the loop of a program over `next` and `answered` comes to one call
 pub mod Steps
 -- every contract leaves one answer and one content of each lent buffer

@@ -27,6 +27,8 @@ pub record Runs {K : Type 0} (m : Machine K) (k : K) (w : Bool) (xs : List ℕ) 
   pub took : (more : List ℕ) → take (placeAfter r) (pageAfter r) ++ owes m (heldOf r) (waitsOf r) more ≡ take at old ++ owes m k w (take count xs ++ more)
   pub done : waitsOf r ≡ false → count ≡ length xs
   pub full : waitsOf r ≡ true → length old < placeAfter r + length (m .answer (heldOf r))
+  -- a line that waited, and has room for its answer, is answered
+  pub first : w ≡ true → at + length (m .answer k) ≤ length old → at + length (m .answer k) ≤ placeAfter r
 
 module _ {K : Type 0} (m : Machine K) (k : K) where
   none : (n : ℕ) (old : List ℕ) (at : ℕ) → at ≤ length old → Runs m k false [] n old at (passed k false n old at)
@@ -41,6 +43,7 @@ module _ {K : Type 0} (m : Machine K) (k : K) where
     took = λ more. refl;
     done = λ e. refl;
     full = λ e. let z : _≡_ {A = ℕ} 0 1 = cc in absurd (omega arith);
+    first = λ e. let z : _≡_ {A = ℕ} 0 1 = cc in absurd (omega arith);
   }
 
   -- one byte before
@@ -57,6 +60,7 @@ module _ {K : Type 0} (m : Machine K) (k : K) where
     took = λ more. h .took more ∙ ap (λ (x : List ℕ). take at old ++ x) (sym (e (take (h .count) bs ++ more)));
     done = λ w. ap suc (h .done w);
     full = h .full;
+    first = λ w. let z : _≡_ {A = ℕ} 0 1 = cc in absurd (omega arith);
   }
 
   -- a line waits: by whether its answer finds room
@@ -79,6 +83,7 @@ module _ {K : Type 0} (m : Machine K) (k : K) where
         took = λ more. g .took more ∙ ap (λ (x : List ℕ). x ++ textFrom m (m .fresh k) (take (g .count) xs ++ more)) (whole .1) ∙ append-assoc (take at old) (m .answer k) _;
         done = g .done;
         full = λ w. omega (arith, g .full w);
+        first = λ w l. omega (arith, g .grows, whole .0);
       }
   answers xs n old at mid by false r h s e later =
       let off = leb-false by (length mid) e in
@@ -94,6 +99,7 @@ module _ {K : Type 0} (m : Machine K) (k : K) where
         took = λ more. ap (λ (x : List ℕ). x ++ owes m k true more) (s .kept);
         done = λ w. let z : _≡_ {A = ℕ} 0 1 = cc in absurd (omega arith);
         full = λ w. let none : at + length (m .answer k) ≤ length old → ⊥ = λ l. omega (arith, s .room l) in omega arith;
+        first = λ w l. absurd (omega (arith, s .room l));
       }
 
   waits : (xs : List ℕ) (n : ℕ) (old : List ℕ) (at : ℕ) → length old < lost → at ≤ length old

@@ -1,7 +1,8 @@
 -- Any list of calls, each with its chunk and its page: what they take and what they put, all in all.
+use mathlib.Core.Path.{_≡_}
 use Prim.Native.Nat.{ℕ, _≤_, _<_}
 use mathlib.Core.List.{List, [], _∷_, _++_}
-use mathlib.Core.Bool.{Bool}
+use mathlib.Core.Bool.{Bool, false}
 use lib.ListN.{length, take, drop}
 use Rattle.text.specs.Sheet.{sheet, lost}
 use Rattle.lines.specs.Machine.{Machine, Passed, passed, passOf}
@@ -60,3 +61,17 @@ heldAfter m k w (c ∷ cs) = heldAfter m (heldOf (called m k w c)) (waitsOf (cal
 unfoldable pub waitsAfter : {K : Type 0} → Machine K → K → Bool → List Call → Bool
 waitsAfter m k w [] = w
 waitsAfter m k w (c ∷ cs) = waitsAfter m (heldOf (called m k w c)) (waitsOf (called m k w c)) cs
+
+-- ## A chunk, call after call
+
+-- each call is given what the one before it has left of the chunk, and a page from its start on, with room for so many bytes
+abbrev pub Rests : {K : Type 0} → Machine K → ℕ → K → Bool → List ℕ → List Call → Type 0
+Rests m room k w input [] = Unit {0}
+Rests m room k w input (c ∷ cs) =
+    ((c .chunk ≡ input) × ((c .place ≡ 0) × ((room ≤ length (c .page)) × (length (c .page) < lost))))
+    × Rests m room (heldOf (called m k w c)) (waitsOf (called m k w c)) (drop (takenOf (called m k w c)) input) cs
+
+-- all of a chunk is taken, and no line waits
+pub record Drains {K : Type 0} (m : Machine K) (k : K) (w : Bool) (input : List ℕ) (cs : List Call) : Type 0 where
+  pub all : taken m k w cs ≡ input
+  pub none : waitsAfter m k w cs ≡ false

@@ -1,11 +1,12 @@
 -- A line that is held in a lent buffer. What a program holds between two calls is the buffer and what is known of it.
+use mathlib.Core.Path.{_≡_}
 use Prim.Native.Nat.{ℕ, _+_}
 use mathlib.Core.List.{List, [], _∷_}
 use mathlib.Core.Bool.{Bool, true, false, _||_}
 use lib.ListN.{length, take, set}
 use lib.Dec.{ltb, leb}
 use Rattle.bits.specs.Bits.{pick}
-use Rattle.lines.specs.Machine.{Machine}
+use Rattle.lines.specs.Machine.{Machine, upToNewline}
 use Rattle.lines.specs.declared.Held.{Held}
 use Rattle.lines.specs.declared.Fed.{Fed}
 
@@ -39,6 +40,10 @@ bufferAfter h buffer (b ∷ bs) = bufferAfter (heldBy h buffer) (keptBy h buffer
 -- what `feed` answers for the bytes that it takes
 abbrev pub fedTo : Held → List ℕ → List ℕ → Fed
 fedTo h buffer bs = record { held = heldAfter h buffer bs; taken = length bs }
+
+-- the contract of `feed`: its answer r, and the buffer at exit; of what was held, the buffer and a piece of the input, up to its first newline
+abbrev pub Feeds : Fed → List ℕ → Held → List ℕ → List ℕ → Type 0
+Feeds r buffer′ h buffer input = (r ≡ fedTo h buffer (upToNewline input)) × (buffer′ ≡ bufferAfter h buffer (upToNewline input))
 
 -- ## A program that answers the line that is held
 

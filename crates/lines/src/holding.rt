@@ -1,7 +1,6 @@
 // A line in a lent buffer, as its bytes come.
 ghost use mathlib.Core.Path.{_≡_};
-ghost use Rattle.lines.specs.Machine.{upToNewline};
-ghost use Rattle.lines.specs.Held.{nothingHeld, heldBy, keptBy, fedTo, bufferAfter, lineIn};
+ghost use Rattle.lines.specs.Held.{nothingHeld, heldBy, keptBy, Feeds, lineIn};
 use crate::Fed;
 use crate::Held;
 
@@ -35,7 +34,7 @@ fn hold(held: Held, line: &mut [u8], b: u8) -> Held
 
 // Takes a piece of the input into the line: up to a newline, or all of it.
 pub fn feed(held: Held, line: &mut [u8], input: &[u8]) -> Fed
-    ensures { λ r. ⌜ (r ≡ fedTo held (now (line .entry)) (upToNewline (now (input .entry)))) × (now (line .exit) ≡ bufferAfter held (now (line .entry)) (upToNewline (now (input .entry)))) ⌝ }
+    ensures { λ r. ⌜ Feeds r (now (line .exit)) held (now (line .entry)) (now (input .entry)) ⌝ }
 {
     let mut known = held;
     let mut i = 0;

@@ -1,11 +1,11 @@
-// The calls, line by line. A line that lacks the form is answered as malformed.
+// The two calls, and the text of their answers.
+ghost use mathlib.Core.Path.{_≡_};
+ghost use Rattle.text.specs.Sheet.{Puts};
+ghost use Rattle.numbercalls.specs.Answers.{refusalText, silenceText, valueText, scaleAnswer, scaleText, okText, rawAnswer, isKind, rawText};
+use crate::fields::Code;
 use crate::fields::Field;
-use crate::fields::field_of;
 use crate::fields::place_of;
 use columns::word;
-use lines::Held;
-use lines::Passed;
-use text::put;
 use text::put_malformed;
 use text::put_refused;
 use text::put_text;
@@ -17,48 +17,9 @@ const VALUE_KINDS: [u8; 45] = *b"? U64 U32 U16 U8 I64 I32 I16 I8 F64 F32 Bytes";
 // The refusal of a width carries two numbers; 10 and 11 carry nothing here.
 const BAD_WIDTH: u32 = 1;
 
-// Answers the lines that end in a chunk of the input, as far as the page has room.
-pub(crate) fn pass(
-    held: Held,
-    waits: bool,
-    line: &mut [u8],
-    input: &[u8],
-    out: &mut [u8],
-    at: usize,
-) -> Passed {
-    let mut turns = u64::MAX;
-    let mut p = lines::begin(held, waits, at);
-    while turns > 0 && !p.over {
-        turns -= 1;
-        p = lines::next(p, line, input);
-        if p.waits {
-            let known = p.held;
-            let to = put_answer(lines::line_of(known, line), out, p.to);
-            p = lines::answered(p, to, out.len());
-        }
-    }
-    p
-}
-
-fn put_answer(line: &[u8], out: &mut [u8], at: usize) -> usize {
-    let to = put_call(line, out, at);
-    put(out, to, b'\n')
-}
-
-fn put_call(line: &[u8], out: &mut [u8], at: usize) -> usize {
-    let f = field_of(line);
-    let n = columns::marks(line, b' ');
-    let call = word(line, 0);
-    if f.good && n == 6 && check::same(call, b"scale") {
-        return put_scale(f, word(line, 6), out, at);
-    }
-    if f.good && n == 7 && check::same(call, b"raw") {
-        return put_raw(f, word(line, 6), word(line, 7), out, at);
-    }
-    put_malformed(out, at)
-}
-
-fn put_refusal(out: &mut [u8], at: usize, status: u32, first: u64, second: u64) -> usize {
+fn put_refusal(out: &mut [u8], at: usize, status: u32, first: u64, second: u64) -> usize
+    ensures { λ r. ⌜ Puts (now (out .entry)) at (refusalText status first second) (now (out .exit)) r ⌝ }
+{
     let count: usize = if status == BAD_WIDTH { 2 } else { 0 };
     put_refused(
         out,
@@ -71,17 +32,36 @@ fn put_refusal(out: &mut [u8], at: usize, status: u32, first: u64, second: u64) 
     )
 }
 
-// A value and whether it says something.
-fn put_scaled(out: &mut [u8], at: usize, answer: &[u64; 4]) -> usize {
-    let a = put_text(out, at, word(&VALUE_KINDS, answer[0] as usize));
-    let b = put_value(out, a, answer[1]);
-    if answer[2] == 0 {
-        return put_text(out, b, b" A");
+// Whether a value says something.
+fn put_silence(out: &mut [u8], at: usize, silence: u64) -> usize
+    ensures { λ r. ⌜ Puts (now (out .entry)) at (silenceText silence) (now (out .exit)) r ⌝ }
+{
+    if silence == 0 {
+        return put_text(out, at, b" A");
     }
-    put_text(out, b, b" N")
+    put_text(out, at, b" N")
 }
 
-fn put_scale(f: Field, digits: &[u8], out: &mut [u8], at: usize) -> usize {
+fn put_said(out: &mut [u8], at: usize, kind: u64, value: u64, silence: u64) -> usize
+    ensures { λ r. ⌜ Puts (now (out .entry)) at (valueText kind value silence) (now (out .exit)) r ⌝ }
+{
+    let a = put_text(out, at, word(&VALUE_KINDS, kind as usize));
+    let b = put_value(out, a, value);
+    put_silence(out, b, silence)
+}
+
+fn put_scale_answer(out: &mut [u8], at: usize, status: u32, answer: &[u64; 4]) -> usize
+    ensures { λ r. ⌜ Puts (now (out .entry)) at (scaleAnswer status (now (answer .entry))) (now (out .exit)) r ⌝ }
+{
+    if status != 0 {
+        return put_refusal(out, at, status, answer[0], answer[1]);
+    }
+    put_said(out, at, answer[0], answer[1], answer[2])
+}
+
+pub(crate) fn put_scale(f: Field, digits: &[u8], out: &mut [u8], at: usize) -> usize
+    ensures { λ r. ⌜ Puts (now (out .entry)) at (scaleText f (now (digits .entry))) (now (out .exit)) r ⌝ }
+{
     let raw = columns::hex(digits);
     if !raw.good {
         return put_malformed(out, at);
@@ -96,16 +76,40 @@ fn put_scale(f: Field, digits: &[u8], out: &mut [u8], at: usize) -> usize {
         raw.value,
         &mut answer,
     );
+    put_scale_answer(out, at, status, &answer)
+}
+
+fn put_ok(out: &mut [u8], at: usize, raw: u64) -> usize
+    ensures { λ r. ⌜ Puts (now (out .entry)) at (okText raw) (now (out .exit)) r ⌝ }
+{
+    let a = put_text(out, at, b"ok");
+    put_value(out, a, raw)
+}
+
+fn put_raw_answer(out: &mut [u8], at: usize, status: u32, answer: &[u64; 3]) -> usize
+    ensures { λ r. ⌜ Puts (now (out .entry)) at (rawAnswer status (now (answer .entry))) (now (out .exit)) r ⌝ }
+{
     if status != 0 {
         return put_refusal(out, at, status, answer[0], answer[1]);
     }
-    put_scaled(out, at, &answer)
+    put_ok(out, at, answer[0])
 }
 
-fn put_raw(f: Field, kind: &[u8], digits: &[u8], out: &mut [u8], at: usize) -> usize {
+fn is_kind(code: Code) -> bool
+    ensures { λ r. ⌜ r ≡ isKind code ⌝ }
+{
+    code.good & (0 < code.value)
+}
+
+pub(crate) fn put_raw(f: Field, kind: &[u8], digits: &[u8], out: &mut [u8], at: usize) -> usize
+    ensures { λ r. ⌜ Puts (now (out .entry)) at (rawText f (now (kind .entry)) (now (digits .entry))) (now (out .exit)) r ⌝ }
+{
     let code = place_of(kind, &VALUE_KINDS);
     let value = columns::hex(digits);
-    if !code.good || !value.good || code.value == 0 {
+    if !is_kind(code) {
+        return put_malformed(out, at);
+    }
+    if !value.good {
         return put_malformed(out, at);
     }
     let mut answer = [0u64; 3];
@@ -119,9 +123,5 @@ fn put_raw(f: Field, kind: &[u8], digits: &[u8], out: &mut [u8], at: usize) -> u
         value.value,
         &mut answer,
     );
-    if status != 0 {
-        return put_refusal(out, at, status, answer[0], answer[1]);
-    }
-    let a = put_text(out, at, b"ok");
-    put_value(out, a, answer[0])
+    put_raw_answer(out, at, status, &answer)
 }

@@ -12,10 +12,15 @@
 // Each line has one answer, on one line of standard output: to scale 'VALUEKIND VALUE' and A, or N
 // where the raw says nothing; to raw 'ok RAW'; or 'F NUMBER' and what the refusal carries.
 //
-// Promise: as that of `textio`. A line that is no call, or is over 1,024 bytes, is answered F 14. The
-// last line may lack its newline. The calls are those that C and Rust make.
+// Promise: any bytes may come, and any number of them; the memory used stays the same. A line that is
+// no call, or is over 1,024 bytes, is answered F 14. The last line may lack its newline. The calls are
+// those that C and Rust make.
+//
+// What is answered is specs/Answers.antt; that it does not depend on the chunks, and that no answer
+// waits for room forever, is proofs/Stream.antt. Here is only read and written.
 mod calls;
 mod fields;
+mod replies;
 
 const NAME: [u8; 11] = *b"numbercalls";
 
@@ -32,15 +37,13 @@ fn run(input: &mut [u8], line: &mut [u8], page: &mut [u8]) {
     let mut turns = u64::MAX;
     let mut at = textio::start();
     let mut held = lines::nothing();
-    let mut waits = false;
-    while turns > 0 && at.open {
+    while turns > 0 && at.more {
+        turns -= 1;
         at = textio::fetch(&NAME, input, at);
         let from = at.from;
         let to = at.to;
-        let p = calls::pass(held, waits, line, &input[from..to], page, 0);
+        let p = replies::pass(held, at.waits, line, &input[from..to], page, 0);
         held = p.held;
-        waits = p.waits;
-        at = textio::store(&NAME, page, p.to, p.taken, at);
-        turns -= 1;
+        at = textio::store(&NAME, page, p.to, p.taken, p.waits, at);
     }
 }

@@ -1,7 +1,7 @@
 -- What the program prints by what it keeps of its lines is what document 01 says of the lines. Assumes nothing.
 use mathlib.Core.Path.{_≡_, refl, sym, ap, _∙_}
 use mathlib.Core.Bool.{Bool, true, false}
-use mathlib.Core.List.{List, [], _∷_, _++_}
+use mathlib.Core.List.{List, [], _∷_, _++_, flatMap}
 use Prim.Native.Nat.{ℕ, _+_, _-_, _*_, _/_, _%_, _^_, _≤_, _<_}
 use native.Mathlib.Omega.{arith}
 use borrow.Author.Tests.{lt-ltb, le-ltb, ltb-true, ltb-false}
@@ -10,6 +10,8 @@ use lib.ListN.{length, take, set, replicate, length-set, length-replicate}
 use Rattle.bits.specs.Bits.{pick}
 use Rattle.bits.specs.Calls.{bytes}
 use Rattle.hexadecimal.specs.Digits.{valueOf}
+use Rattle.text.specs.Digits.{higher, spaced}
+use Rattle.text.specs.Refusals.{carriedTexts, refusedText}
 use Rattle.lines.specs.Machine.{textFrom, plain}
 use Rattle.lines.proofs.Alike.{alike}
 use Rattle.tables.specs.Table.{tableOf}
@@ -35,8 +37,10 @@ use Rattle.frames.specs.Frames.{knownFrame, frameOf, frameBy}
 use Rattle.frames.specs.declared.Line.{Line}
 use Rattle.frames.specs.declared.Frame.{Frame}
 use Rattle.frames.proofs.Exact.{frame, payload, whole-front, line-pieces, buffer-pieces}
-use Rattle.frame_lines.specs.Lines.{frameLine, refusalLine}
-use Rattle.frame_lines.specs.Decode.{readingLines, decodeText, walkText}
+use Rattle.frames.specs.declared.Frame.the-variants.{Unknown, Malformed}
+use Rattle.frames.specs.Refusals.{numberOf, carriedOf}
+use Rattle.frame_lines.specs.Lines.{newline, pgnText, frameLine, refusalLine, malformedLine, unknownLine}
+use Rattle.frame_lines.specs.Decode.{decodeText, walkText}
 use Rattle.printing.specs.Text.{messageText, frameText, answerTo, answered}
 use Rattle.printing.specs.Answers.{payloadText, answerBy, Kept, kept, samopute}
 
@@ -64,7 +68,7 @@ prints m p s e =
 -- the buffer begins with the payload, unless that is too long
 payload-by : (m : Message) (p buffer : List ℕ) (t : Bool) → ltb payloadMax (length p) ≡ t → (length p ≤ payloadMax → take (length p) buffer ≡ p)
     → pick t (refusalLine (WrongLength (bytes (length p)))) (walkText (tableOf (wordsOf m)) (payloadOf (take (length p) buffer)) roomEnough) ≡ messageText m p
-unfolding readingLines
+unfolding flatMap
 payload-by m p buffer true e h = sym (prints m p (prepared.Refused (WrongLength (bytes (length p)))) (prepares m (length p) true e))
 payload-by m p buffer false e h =
     ap (λ (x : List ℕ). walkText (tableOf (wordsOf m)) (payloadOf x) roomEnough) (h (ltb-false payloadMax (length p) e)) ∙ sym (prints m p prepared.Ready (prepares m (length p) false e))
@@ -84,6 +88,15 @@ pub answers : (line buffer : List ℕ) → length line < 2 ^ 64 → payloadMax �
 answers line buffer small room =
     ap (λ (f : Frame). answerBy f (bufferAfter emptyLine buffer line)) (frame line small)
     ∙ parsed-by (lineOf line) (bufferAfter emptyLine buffer line) (λ pgn p e l. ap (take (length p)) (payload line buffer pgn p e small) ∙ whole-front p buffer (omega arith))
+
+-- 14 and 15 are printed by the numbers that `frames` gives them, and 15 with the PGN that it carries "in 6 digits"
+pub malformed-number : malformedLine ≡ refusedText (numberOf Malformed) (carriedOf Malformed) ++ newline
+unfolding higher carriedTexts
+malformed-number = refl
+
+pub unknown-number : (pgn : ℕ) → unknownLine pgn ≡ 70 ∷ spaced (numberOf (Unknown pgn)) ++ 32 ∷ pgnText pgn ++ newline
+unfolding higher unknownLine
+unknown-number pgn = refl
 
 -- ## All lines
 

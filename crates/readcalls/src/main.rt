@@ -17,18 +17,23 @@
 // ELEMENT, RAW, ENCODING and BYTES are '-' where there is none. KIND and VALUE are those of the program
 // numbercalls; for text and bytes they are Bytes, PLACE:LENGTH and the ENCODING. F 8 carries the rule's
 // letter and the index. The readings come turn by turn; the whole decode in one call has to come to the
-// same end, count, refusal and padding run, or a line X follows.
+// same end, count, refusal and padding run, or a line X follows. It is proved that none does: the one
+// call is made so that its compiled code runs too.
 //
-// Promise: as that of `textio`. A line that is no case, or is over 8,192 bytes, is answered F 14 alone.
-// The last line may lack its newline.
+// Promise: any bytes may come, and any number of them; the memory used stays the same. A line that is
+// no case, or is over 8,192 bytes, is answered F 14 alone. The last line may lack its newline.
+//
+// What is answered is specs/Answers.antt; that it does not depend on the chunks, and that no answer
+// waits for room forever, is proofs/Stream.antt. Here is only read and written.
+mod alike;
 mod answers;
-mod cases;
 mod replies;
+mod turning;
 
 const NAME: [u8; 9] = *b"readcalls";
 
-// A page holds the longest answer. A payload of at most 223 bytes has 1,785 readings at the most, and
-// the line of each at most 156 bytes; the end and the padding run take less than 700.
+// A page holds the longest answer (proofs/Sizes.antt): a payload of at most 223 bytes has 1,785
+// readings at the most, and the line of each at most 160 bytes.
 const PAGE: usize = 524288;
 
 fn main() {
@@ -44,15 +49,13 @@ fn run(input: &mut [u8], line: &mut [u8], page: &mut [u8]) {
     let mut turns = u64::MAX;
     let mut at = textio::start();
     let mut held = lines::nothing();
-    let mut waits = false;
-    while turns > 0 && at.open {
+    while turns > 0 && at.more {
+        turns -= 1;
         at = textio::fetch(&NAME, input, at);
         let from = at.from;
         let to = at.to;
-        let p = replies::pass(held, waits, line, &input[from..to], page, 0);
+        let p = replies::pass(held, at.waits, line, &input[from..to], page, 0);
         held = p.held;
-        waits = p.waits;
-        at = textio::store(&NAME, page, p.to, p.taken, at);
-        turns -= 1;
+        at = textio::store(&NAME, page, p.to, p.taken, p.waits, at);
     }
 }

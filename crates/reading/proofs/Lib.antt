@@ -20,7 +20,7 @@ pub mod Local
 pub mod Passed
 -- a StringLz is met last, and no field but the last takes no bits
 pub mod Lasts
--- as many readings as fields that are not skipped; one more than the payload has bits is always room enough
+-- as many readings as fields that are not skipped, and at most one more than the payload has bits; room for so many is always enough
 pub mod Roomy
 -- one number changed, no counter: the same walk, and every other reading the same
 pub mod Changed

@@ -145,6 +145,10 @@ module _ (t : Table) (p : Payload) (room : ℕ) where
   pub walk-passed : (vs : List Span) (s : Progress) → walkOf t p room ≡ ran vs s → Passed beginning vs s
   walk-passed vs s e = lawful-ran (rw e at lawful)
 
+  -- a walk that stopped
+  pub walk-stopped : (vs : List Span) (f : DecodeRefusal) → walkOf t p room ≡ stopped vs f → (s : Progress) × Passed beginning vs s
+  walk-stopped vs f e = let h = lawful-stopped (rw e at lawful) in (h .0, h .1)
+
   -- a walk that found no room
   pub walk-full : (vs : List Span) (i : ℕ) → walkOf t p room ≡ stopped vs (NoRoom i) → (s : Progress) × Passed beginning vs s × (room ≤ s .made)
   walk-full vs i e = let h = lawful-stopped (rw e at lawful) in (h .0, h .1, h .2 i refl)

@@ -1,6 +1,7 @@
 -- The count of readings, and the room that is always enough. Assumes nothing.
 use mathlib.Core.Path.{_≡_, refl, ap, _∙_}
 use mathlib.Core.Bool.{Bool, true, false}
+use mathlib.Core.Logic.{inl, inr}
 use mathlib.Core.List.{List, [], _∷_}
 use Prim.Native.Nat.{ℕ, _+_, _*_, _≤_, _<_}
 use native.Mathlib.Omega.{arith}
@@ -12,8 +13,9 @@ use Rattle.tables.specs.Table.{Table}
 use Rattle.tables.specs.Check.{checkOf, payloadMax}
 use Rattle.tables.specs.declared.Checked.{Checked}
 use Rattle.tables.specs.declared.Checked.the-variants as checked
-use Rattle.walking.specs.Runs.{stopped}
-use Rattle.walking.proofs.Visits.{All}
+use Rattle.walking.specs.Runs.{Run, ran, stopped}
+use Rattle.walking.proofs.Visits.{All, Ending}
+use Rattle.fields.specs.declared.DecodeRefusal.{DecodeRefusal}
 use Rattle.fields.specs.declared.DecodeRefusal.the-variants.{WrongLength, NoRoom}
 use Rattle.fields.specs.declared.Shape.{Shape}
 use Rattle.fields.specs.declared.Shape.the-variants.{Number, Gap, Fixed, Whole, Lau, Lz}
@@ -21,13 +23,14 @@ use Rattle.fields.specs.Payload.{Payload}
 use Rattle.fields.specs.Shapes.{shapeOf}
 use Rattle.reading.specs.declared.Span.{Span}
 use Rattle.reading.specs.declared.Reading.{Reading}
+use Rattle.reading.specs.declared.Progress.{Progress}
 use Rattle.reading.specs.declared.Prepared.the-variants.{Refused}
 use Rattle.reading.specs.Filling.{byCheck, preparedOf}
-use Rattle.reading.specs.Decode.{walkOf, readingOf, withReading, readings}
+use Rattle.reading.specs.Decode.{walkOf, readingOf, withReading, readings, spansOf}
 use Rattle.reading.specs.Demand3.{total, unskipped, unskippedIn}
 use Rattle.reading.proofs.Spans.{sum}
-use Rattle.reading.proofs.Passed.{Right, walk-full}
-use Rattle.reading.proofs.Lasts.{Early, stopped-early, early-some}
+use Rattle.reading.proofs.Passed.{Right, walk-passed, walk-stopped, walk-full}
+use Rattle.reading.proofs.Lasts.{Early, ran-early, stopped-early, early-some}
 
 -- ## The count of readings is that of the fields that are not skipped
 
@@ -66,6 +69,38 @@ module _ (t : Table) (ok : checkOf t ≡ checked.Accepted) (p : Payload) (room :
       let b = few vs (r .1) (h .1) in
       let c = one-most (shapeOf (t .field (v .field))) in
       omega arith
+
+  -- .. and one more, where the last may take none
+  few-ending : (vs : List Span) → All (Right t p room) vs → Ending (Early t ok p room) vs → unskippedIn t vs ≤ total vs + 1
+  unfolding unskippedIn total
+  few-ending [] r h = omega arith
+  few-ending (v ∷ vs) r (inl e, h) =
+      let a = early-some t ok p room v (r .0) e in
+      let b = few-ending vs (r .1) h in
+      let c = one-most (shapeOf (t .field (v .field))) in
+      omega arith
+  few-ending (v ∷ []) r (inr e, h) = let c = one-most (shapeOf (t .field (v .field))) in omega arith
+  few-ending (v ∷ w ∷ vs) r (inr e, h) = let z : _≡_ {A = ℕ} 0 1 = cc in absurd (omega arith)
+
+  -- so, whatever the room, a walk hands out at most one reading more than the payload has bits
+  few-by : (x : Run Span Progress DecodeRefusal) → walkOf t p room ≡ x → length (readings t p (spansOf x)) ≤ p .size * 8 + 1
+  few-by (ran vs s) e =
+      let f = walk-passed t p room vs s e in
+      let c = few-ending vs (f .right) (ran-early t ok p room vs s e) in
+      let q = sum 0 vs (s .at .0) (f .chain) in
+      let n = count-unskipped t p vs in
+      let u = f .inside (omega arith) in
+      omega arith
+  few-by (stopped vs b) e =
+      let f = walk-stopped t p room vs b e in
+      let c = few vs (f .1 .right) (stopped-early t ok p room vs b e) in
+      let q = sum 0 vs (f .0 .at .0) (f .1 .chain) in
+      let n = count-unskipped t p vs in
+      let u = f .1 .inside (omega arith) in
+      omega arith
+
+  pub few-readings : length (readings t p (spansOf (walkOf t p room))) ≤ p .size * 8 + 1
+  few-readings = few-by (walkOf t p room) refl
 
   -- Room for one reading more than the payload has bits never gives 9. Each field met before the one that would find no room takes a bit or
   -- more, so that these are no more than the bits up to it; only the last StringFix, outside a set, may take none, and no field follows it:

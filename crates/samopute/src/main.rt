@@ -31,15 +31,13 @@ fn run(input: &mut [u8], payload: &mut [u8], page: &mut [u8]) {
     let mut turns = u64::MAX;
     let mut at = textio::start();
     let mut line = frames::empty_line();
-    let mut waits = false;
-    while turns > 0 && at.open {
+    while turns > 0 && at.more {
+        turns -= 1;
         at = textio::fetch(&NAME, input, at);
         let from = at.from;
         let to = at.to;
-        let p = printing::pass(line, waits, payload, &input[from..to], page, 0);
+        let p = printing::pass(line, at.waits, payload, &input[from..to], page, 0);
         line = p.line;
-        waits = p.waits;
-        at = textio::store(&NAME, page, p.to, p.taken, at);
-        turns -= 1;
+        at = textio::store(&NAME, page, p.to, p.taken, p.waits, at);
     }
 }

@@ -1,15 +1,14 @@
 -- The words of a line, as they are stored, and the answer to the line. Assumes nothing.
-use mathlib.Core.Path.{_≡_, refl, ap}
-use mathlib.Core.Bool.{Bool, true, false}
+use mathlib.Core.Path.{_≡_, refl, sym, _∙_}
+use mathlib.Core.Bool.{true, false}
 use mathlib.Core.List.{List, [], _∷_, _++_}
 use Prim.Native.Nat.{ℕ, _-_, _≤_}
-use native.Mathlib.Omega.{arith}
-use lib.ListN.{length, take, drop, length-append}
-use lib.Seq.{take-at}
+use lib.ListN.{length, take}
 use Rattle.text.specs.Refusals.{tableRefused, refusedText, malformedText}
 use Rattle.columns.specs.Parts.{space, partsOf}
-use Rattle.columns.specs.Runs.{Filled, filled, filledIf, valuesOf, wordsIn}
+use Rattle.columns.specs.Runs.{filled, valuesOf, wordsIn}
 use Rattle.columns.specs.declared.Run.{Run}
+use Rattle.columns.proofs.Stored.{Stored, stored-words}
 use Rattle.lines.specs.Machine.{newline}
 use Rattle.tables.specs.Table.{tableOf}
 use Rattle.tables.specs.Check.{checkOf, letterOf}
@@ -22,49 +21,21 @@ use Rattle.tablecalls.specs.Answers.{wordsMax, checkedText, isTable, ans
 pub refused : {x : Checked} {rule : TableRule} {index n : ℕ} → x ≡ Refused rule index → n ≡ letterOf rule → refusedText tableRefused (n ∷ index ∷ []) ≡ checkedText x
 refused e f = rw (e, f)
 
-abbrev runIn : Filled → Run
-runIn (filled r buffer) = r
-
-abbrev bufferIn : Filled → List ℕ
-bufferIn (filled r buffer) = buffer
-
--- values were stored: the test held, and the buffer begins with them
-record Stored (t : Bool) (xs : List ℕ) (r : Run) (buffer : List ℕ) : Type 0 where
-  pub held : t ≡ true
-  pub within : r .len ≤ length buffer
-  pub first : take (r .len) buffer ≡ xs
-
-module _ (r : Run) (xs old new : List ℕ) where
-  stored : (t : Bool) → filled r new ≡ filledIf t xs old → r .good ≡ true → Stored t xs r new
-  stored true e g =
-      let is = ap runIn e in
-      let has = ap bufferIn e in
-      record {
-        held = refl;
-        within = rw (is, has) (omega (arith, length-append xs (drop (length xs) old)));
-        first = rw (is, has) (take-at xs (drop (length xs) old) (length xs) refl);
-      }
-  stored false e g = let is = ap runIn e in let z : _≡_ {A = ℕ} 0 1 = cc in absurd (omega arith)
-
-  not-stored : (t : Bool) → filled r new ≡ filledIf t xs old → r .good ≡ false → t ≡ false
-  not-stored true e g = let is = ap runIn e in let z : _≡_ {A = ℕ} 0 1 = cc in absurd (omega arith)
-  not-stored false e g = refl
-
 module _ (line old : List ℕ) {new : List ℕ} {r : Run} (e : filled r new ≡ wordsIn space line old) (size : length old ≡ wordsMax) where
-  is : filled r new ≡ filledIf (isTable line) (valuesOf (partsOf space line)) old
-  unfolding wordsIn
-  is = rw size at e
+  stored : Stored (isTable line) (valuesOf (partsOf space line)) r new
+  stored = stored-words old wordsMax size refl space e
 
-  pub words-within : r .good ≡ true → r .len ≤ length new
-  words-within g = stored r _ old new (isTable line) is g .within
+  module _ (g : r .good ≡ true) where
+    is : isTable line ≡ true
+    is = sym (stored .good) ∙ g
+
+    pub words-within : r .len ≤ length new
+    words-within = stored .within is
+
+    pub checked : checkedText (checkOf (tableOf (take (r .len - 0) new))) ++ newline ∷ [] ≡ answered line
+    unfolding answered
+    checked = rw (is, stored .first is)
 
   pub malformed : r .good ≡ false → malformedText ++ newline ∷ [] ≡ answered line
   unfolding answered
-  malformed g = rw (not-stored r _ old new (isTable line) is g)
-
-  pub checked : r .good ≡ true → checkedText (checkOf (tableOf (take (r .len - 0) new))) ++ newline ∷ [] ≡ answered line
-  unfolding answered
-  checked g =
-      let s = stored r _ old new (isTable line) is g in
-      let all : r .len - 0 ≡ r .len = omega arith in
-      rw (s .held, all, s .first)
+  malformed g = let is : isTable line ≡ false = sym (stored .good) ∙ g in rw is

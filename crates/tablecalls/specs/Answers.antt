@@ -1,14 +1,12 @@
--- What a line is answered: docs/PROGRAMS.md, the table check, with document 01's text of a refusal.
+-- What a line is answered: src/main.rt, "each line [..] is one table in words", with document 01's text of a refusal.
 use Prim.Native.Nat.{ℕ}
 use mathlib.Core.List.{List, [], _∷_, _++_}
-use mathlib.Core.Bool.{Bool, _&&_}
-use lib.Dec.{leb}
-use lib.ListN.{length}
+use mathlib.Core.Bool.{Bool}
 use Rattle.bits.specs.Bits.{pick}
 use Rattle.text.specs.Refusals.{tableRefused, refusedText, malformedText}
 use Rattle.columns.specs.Parts.{space, partsOf}
-use Rattle.columns.specs.Runs.{allNumbers, valuesOf}
-use Rattle.lines.specs.Machine.{newline}
+use Rattle.columns.specs.Runs.{valuesOf, isWords}
+use Rattle.lines.specs.Machine.{newline, textOf}
 use Rattle.tables.specs.Table.{tableOf}
 use Rattle.tables.specs.Check.{checkOf, letterOf}
 use Rattle.tables.specs.declared.Checked.{Checked}
@@ -25,7 +23,7 @@ checkedText (Refused rule index) = refusedText tableRefused (letterOf rule ∷ i
 
 -- "1 to 200 words of 1 to 16 capital hexadecimal digits, set apart by one space"
 abbrev pub isTable : List ℕ → Bool
-isTable line = allNumbers (partsOf space line) && leb (length (partsOf space line)) wordsMax
+isTable line = isWords space wordsMax line
 
 -- the table's check; "a line that is no table in words is answered F 14"
 abbrev pub answerText : List ℕ → List ℕ
@@ -33,3 +31,11 @@ answerText line = pick (isTable line) (checkedText (checkOf (tableOf (valuesOf (
 
 unfoldable pub answered : List ℕ → List ℕ
 answered line = answerText line ++ newline ∷ []
+
+-- all that is printed for an input
+abbrev pub printed : List ℕ → List ℕ
+printed input = textOf answered input
+
+-- the bytes of the line's buffer: no table has more (proofs/Short.antt)
+abbrev pub lineMax : ℕ
+lineMax = 3400

@@ -27,15 +27,13 @@ fn run(input: &mut [u8], line: &mut [u8], page: &mut [u8]) {
     let mut turns = u64::MAX;
     let mut at = textio::start();
     let mut held = lines::nothing();
-    let mut waits = false;
-    while turns > 0 && at.open {
+    while turns > 0 && at.more {
+        turns -= 1;
         at = textio::fetch(&NAME, input, at);
         let from = at.from;
         let to = at.to;
-        let p = replies::pass(held, waits, line, &input[from..to], page, 0);
+        let p = replies::pass(held, at.waits, line, &input[from..to], page, 0);
         held = p.held;
-        waits = p.waits;
-        at = textio::store(&NAME, page, p.to, p.taken, at);
-        turns -= 1;
+        at = textio::store(&NAME, page, p.to, p.taken, p.waits, at);
     }
 }

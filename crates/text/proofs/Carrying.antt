@@ -9,7 +9,7 @@ use lib.Dec.{ltb}
 use lib.ListN.{length, take, getD}
 use Rattle.bits.specs.Bits.{pick}
 use Rattle.text.specs.Digits.{spaced}
-use Rattle.text.specs.Refusals.{carriedText, carriedTexts}
+use Rattle.text.specs.Refusals.{carriedText, carriedTexts, refusedText}
 
 none : (n : ℕ) → take {A = ℕ} n [] ≡ []
 none zero = refl
@@ -38,3 +38,8 @@ listed (a ∷ []) l = refl
 listed (a ∷ b ∷ []) l = refl
 listed (a ∷ b ∷ c ∷ []) l = refl
 listed (a ∷ b ∷ c ∷ d ∷ xs) l = absurd (omega arith)
+
+-- the number, and of the values at the first three places as many as there are: the refusal of that number that carries them
+pub carried-all : (number′ : ℕ) (xs : List ℕ) → length xs ≤ 3 → {number count first second third : ℕ} → number ≡ number′ → count ≡ length xs
+    → first ≡ getD xs 0 0 → second ≡ getD xs 1 0 → third ≡ getD xs 2 0 → refusedText number (take count (first ∷ second ∷ third ∷ [])) ≡ refusedText number′ xs
+carried-all number′ xs l n k a b c = rw (n, k, a, b, c) (ap (refusedText number′) (listed xs l))

@@ -1,18 +1,25 @@
 -- How long the texts of numbers are. Assumes nothing.
-use mathlib.Core.Path.{_≡_, refl, ap, _∙_}
+use mathlib.Core.Path.{_≡_, refl}
 use mathlib.Core.Bool.{Bool, true, false}
 use mathlib.Core.List.{List, [], _∷_, _++_}
 use Prim.Native.Nat.{ℕ, zero, suc, _+_, _*_, _/_, _%_, _≤_, _<_}
 use native.Mathlib.Omega.{arith}
 use lib.Dec.{eqb}
 use lib.ListN.{length, length-append}
+use Rattle.bits.specs.Bits.{pick}
 use Rattle.hexadecimal.specs.Digits.{digitOf}
-use Rattle.text.specs.Digits.{unless, higher, shortest, decimalOf, hexOf, fixed, spaced}
+use Rattle.hexadecimal.proofs.Inverse.{length-digits}
+use Rattle.text.specs.Digits.{unless, higher, shortest, decimalOf, hexOf, fixed, spaced, bytesText}
 use Rattle.text.specs.Refusals.{carriedText, carriedTexts, refusedText}
 
 -- two texts
 pub plus : (a b : List ℕ) (m n : ℕ) → length a ≤ m → length b ≤ n → length (a ++ b) ≤ m + n
 plus a b m n l k = omega (arith, length-append a b)
+
+-- one of two texts
+pub either : (t : Bool) (a b : List ℕ) (n : ℕ) → length a ≤ n → length b ≤ n → length (pick t a b) ≤ n
+either true a b n h k = h
+either false a b n h k = k
 
 unless-size : (t : Bool) (xs : List ℕ) (n : ℕ) → length xs ≤ n → length (unless t xs) ≤ n
 unless-size true xs n l = omega arith
@@ -44,6 +51,10 @@ pub fixed-size : (b w n : ℕ) → length (fixed b w n) ≡ w
 unfolding fixed
 fixed-size b zero n = refl
 fixed-size b (suc w) n = omega (arith, length-append (fixed b w (n / b)) (digitOf (n % b) ∷ []), fixed-size b w (n / b))
+
+pub bytes-size : (s : List ℕ) → length (bytesText s) ≤ 1 + 2 * length s
+bytes-size [] = omega arith
+bytes-size (x ∷ xs) = omega (arith, length-digits (x ∷ xs))
 
 -- ## A refusal
 

@@ -1,18 +1,17 @@
 -- `compose::run` is safe and ends. The invariant: the buffers keep their lengths. The measure is the number of turns that are left. Assumes nothing.
 use mathlib.Core.Path.{_≡_}
-use native.Mathlib.Omega.{arith}
 use borrow.Author.Needs.{needs}
 use lib.ListN.{length}
+use native.Mathlib.Omega.{arith}
 use Rattle.compose.proofs.run.Statement.{statement}
 use Rattle.compose.proofs.run.Tie as tie
 
 abbrev Inv-loop : tie.InvT-loop
-Inv-loop input₀ line₀ values₀ lent₀ page₀ turns₀ at₀ held₀ waits₀ t13 t14 input line values lent page turns at held waits =
-    (length input ≡ length input₀) × ((length line ≡ length line₀) × ((length values ≡ length values₀) × ((length lent ≡ length lent₀) × (length page ≡ length page₀))))
+Inv-loop input₀ line₀ page₀ turns₀ at₀ held₀ t11 t12 input line page turns at held =
+    (length input ≡ length input₀) × ((length line ≡ length line₀) × (length page ≡ length page₀))
 
 abbrev μ-loop : tie.MeasureT-loop
-μ-loop input₀ line₀ values₀ lent₀ page₀ turns₀ at₀ held₀ waits₀ t13 t14 input line values lent page turns at held waits =
-    turns
+μ-loop input₀ line₀ page₀ turns₀ at₀ held₀ t11 t12 input line page turns at held = turns
 
 start-requires : tie.Need-start-requires Inv-loop μ-loop
 start-requires c κs = search needs
@@ -22,6 +21,9 @@ nothing-requires c κs = search needs
 
 loop-holds : tie.Need-loop-holds Inv-loop μ-loop
 loop-holds c = search needs
+
+sub-turns : tie.Need-sub-turns Inv-loop μ-loop
+sub-turns c = search needs
 
 slice-aggregate-fetch : tie.Need-slice-aggregate-fetch Inv-loop μ-loop
 slice-aggregate-fetch c = search needs
@@ -47,16 +49,13 @@ slice-aggregate-store c = search needs
 store-requires : tie.Need-store-requires Inv-loop μ-loop
 store-requires c κs = search needs
 
-sub-turns : tie.Need-sub-turns Inv-loop μ-loop
-sub-turns c = omega (arith, c .before .before .before .before .before .before .before .before .before .before .before .before .before .before .before .before .before .before .before .before .before .before .before .before .before .loop-test .taken)
-
 loop-less : tie.Need-loop-less Inv-loop μ-loop
-loop-less c = omega (arith, c .before .before .before .before .before .before .before .before .before .before .before .before .before .before .before .before .before .before .before .before .before .before .before .before .before .loop-test .taken)
+loop-less c = omega (arith, sub-turns (c .before .before .before .before .before .before .before .before .before .before .before .before .before .before .before .before .before .before))
 
 loop-again : tie.Need-loop-again Inv-loop μ-loop
 loop-again c =
-    let inv = c .before .before .before .before .before .before .before .before .before .before .before .before .before .before .before .before .before .before .before .before .before .before .before .before .before .before .loop .inv in
-    (omega (arith, c .before .before .before .before .before .before .before .before .before .before .before .before .before .before .before .before .before .before .before .before .input .given), (omega (arith, c .before .before .before .before .before .before .before .before .before .before .before .line .given), (omega (arith, c .before .before .before .before .before .before .before .before .before .values .given), (omega (arith, c .before .before .before .before .before .before .before .lent .given), omega (arith, c .before .before .before .before .before .page .given)))))
+    let sizes = c .before .before .before .before .before .before .before .before .before .before .before .before .before .before .before .before .before .before .before .before .loop .inv in
+    (omega (arith, sizes), (omega (arith, sizes), omega (arith, sizes)))
 
 same-length : tie.Need-same-length Inv-loop μ-loop
 same-length c = search needs
@@ -67,29 +66,17 @@ same-length-2 c = search needs
 same-length-3 : tie.Need-same-length-3 Inv-loop μ-loop
 same-length-3 c = search needs
 
+returns : tie.Need-returns Inv-loop μ-loop
+returns c = search needs
+
 same-length-4 : tie.Need-same-length-4 Inv-loop μ-loop
 same-length-4 c = search needs
 
 same-length-5 : tie.Need-same-length-5 Inv-loop μ-loop
 same-length-5 c = search needs
 
-returns : tie.Need-returns Inv-loop μ-loop
-returns c = search needs
-
 same-length-6 : tie.Need-same-length-6 Inv-loop μ-loop
 same-length-6 c = search needs
-
-same-length-7 : tie.Need-same-length-7 Inv-loop μ-loop
-same-length-7 c = search needs
-
-same-length-8 : tie.Need-same-length-8 Inv-loop μ-loop
-same-length-8 c = search needs
-
-same-length-9 : tie.Need-same-length-9 Inv-loop μ-loop
-same-length-9 c = search needs
-
-same-length-10 : tie.Need-same-length-10 Inv-loop μ-loop
-same-length-10 c = search needs
 
 returns-2 : tie.Need-returns-2 Inv-loop μ-loop
 returns-2 c = search needs
@@ -103,6 +90,7 @@ run-spec =
     start-requires
     nothing-requires
     loop-holds
+    sub-turns
     slice-aggregate-fetch
     fetch-requires
     sub-pass
@@ -111,18 +99,13 @@ run-spec =
     pass-requires
     slice-aggregate-store
     store-requires
-    sub-turns
     loop-less
     loop-again
     same-length
     same-length-2
     same-length-3
+    returns
     same-length-4
     same-length-5
-    returns
     same-length-6
-    same-length-7
-    same-length-8
-    same-length-9
-    same-length-10
     returns-2)

@@ -1,16 +1,17 @@
 -- `numbercalls::run` is safe and ends. The invariant: the buffers keep their lengths. The measure is the number of turns that are left. Assumes nothing.
 use mathlib.Core.Path.{_≡_}
-use native.Mathlib.Omega.{arith}
 use borrow.Author.Needs.{needs}
 use lib.ListN.{length}
+use native.Mathlib.Omega.{arith}
 use Rattle.numbercalls.proofs.run.Statement.{statement}
 use Rattle.numbercalls.proofs.run.Tie as tie
 
 abbrev Inv-loop : tie.InvT-loop
-Inv-loop input₀ line₀ page₀ turns₀ at₀ held₀ waits₀ t11 t12 input line page turns at held waits = (length input ≡ length input₀) × ((length line ≡ length line₀) × (length page ≡ length page₀))
+Inv-loop input₀ line₀ page₀ turns₀ at₀ held₀ t11 t12 input line page turns at held =
+    (length input ≡ length input₀) × ((length line ≡ length line₀) × (length page ≡ length page₀))
 
 abbrev μ-loop : tie.MeasureT-loop
-μ-loop input₀ line₀ page₀ turns₀ at₀ held₀ waits₀ t11 t12 input line page turns at held waits = turns
+μ-loop input₀ line₀ page₀ turns₀ at₀ held₀ t11 t12 input line page turns at held = turns
 
 start-requires : tie.Need-start-requires Inv-loop μ-loop
 start-requires c κs = search needs
@@ -20,6 +21,9 @@ nothing-requires c κs = search needs
 
 loop-holds : tie.Need-loop-holds Inv-loop μ-loop
 loop-holds c = search needs
+
+sub-turns : tie.Need-sub-turns Inv-loop μ-loop
+sub-turns c = search needs
 
 slice-aggregate-fetch : tie.Need-slice-aggregate-fetch Inv-loop μ-loop
 slice-aggregate-fetch c = search needs
@@ -45,16 +49,13 @@ slice-aggregate-store c = search needs
 store-requires : tie.Need-store-requires Inv-loop μ-loop
 store-requires c κs = search needs
 
-sub-turns : tie.Need-sub-turns Inv-loop μ-loop
-sub-turns c = search needs
-
 loop-less : tie.Need-loop-less Inv-loop μ-loop
-loop-less c = search needs
+loop-less c = omega (arith, sub-turns (c .before .before .before .before .before .before .before .before .before .before .before .before .before .before .before .before .before .before))
 
 loop-again : tie.Need-loop-again Inv-loop μ-loop
 loop-again c =
-    let inv = c .before .before .before .before .before .before .before .before .before .before .before .before .before .before .before .before .before .before .before .before .loop .inv in
-    (omega (arith, c .before .before .before .before .before .before .before .before .before .before .before .before .before .before .input .given), (omega (arith, c .before .before .before .before .before .before .before .line .given), omega (arith, c .before .before .before .before .before .page .given)))
+    let sizes = c .before .before .before .before .before .before .before .before .before .before .before .before .before .before .before .before .before .before .before .before .loop .inv in
+    (omega (arith, sizes), (omega (arith, sizes), omega (arith, sizes)))
 
 same-length : tie.Need-same-length Inv-loop μ-loop
 same-length c = search needs
@@ -89,6 +90,7 @@ run-spec =
     start-requires
     nothing-requires
     loop-holds
+    sub-turns
     slice-aggregate-fetch
     fetch-requires
     sub-pass
@@ -97,7 +99,6 @@ run-spec =
     pass-requires
     slice-aggregate-store
     store-requires
-    sub-turns
     loop-less
     loop-again
     same-length

@@ -7,11 +7,11 @@ use Rattle.samopute.proofs.run.Statement.{statement}
 use Rattle.samopute.proofs.run.Tie as tie
 
 abbrev Inv-loop : tie.InvT-loop
-Inv-loop input₀ payload₀ page₀ turns₀ at₀ line₀ waits₀ t11 t12 input payload page turns at line waits =
+Inv-loop input₀ payload₀ page₀ turns₀ at₀ line₀ t11 t12 input payload page turns at line =
     (length input ≡ length input₀) × ((length payload ≡ length payload₀) × (length page ≡ length page₀))
 
 abbrev μ-loop : tie.MeasureT-loop
-μ-loop input₀ payload₀ page₀ turns₀ at₀ line₀ waits₀ t11 t12 input payload page turns at line waits = turns
+μ-loop input₀ payload₀ page₀ turns₀ at₀ line₀ t11 t12 input payload page turns at line = turns
 
 start-requires : tie.Need-start-requires Inv-loop μ-loop
 start-requires c κs = search needs
@@ -21,6 +21,9 @@ empty-line-requires c κs = search needs
 
 loop-holds : tie.Need-loop-holds Inv-loop μ-loop
 loop-holds c = search needs
+
+sub-turns : tie.Need-sub-turns Inv-loop μ-loop
+sub-turns c = search needs
 
 slice-aggregate-fetch : tie.Need-slice-aggregate-fetch Inv-loop μ-loop
 slice-aggregate-fetch c = search needs
@@ -46,11 +49,8 @@ slice-aggregate-store c = search needs
 store-requires : tie.Need-store-requires Inv-loop μ-loop
 store-requires c κs = search needs
 
-sub-turns : tie.Need-sub-turns Inv-loop μ-loop
-sub-turns c = search needs
-
 loop-less : tie.Need-loop-less Inv-loop μ-loop
-loop-less c = search needs
+loop-less c = omega (arith, sub-turns (c .before .before .before .before .before .before .before .before .before .before .before .before .before .before .before .before .before .before))
 
 loop-again : tie.Need-loop-again Inv-loop μ-loop
 loop-again c =
@@ -90,6 +90,7 @@ run-spec =
     start-requires
     empty-line-requires
     loop-holds
+    sub-turns
     slice-aggregate-fetch
     fetch-requires
     sub-pass
@@ -98,7 +99,6 @@ run-spec =
     pass-requires
     slice-aggregate-store
     store-requires
-    sub-turns
     loop-less
     loop-again
     same-length

@@ -7,11 +7,11 @@ use Rattle.tablecalls.proofs.run.Statement.{statement}
 use Rattle.tablecalls.proofs.run.Tie as tie
 
 abbrev Inv-loop : tie.InvT-loop
-Inv-loop input₀ line₀ page₀ turns₀ at₀ held₀ waits₀ t11 t12 input line page turns at held waits =
+Inv-loop input₀ line₀ page₀ turns₀ at₀ held₀ t11 t12 input line page turns at held =
     (length input ≡ length input₀) × ((length line ≡ length line₀) × (length page ≡ length page₀))
 
 abbrev μ-loop : tie.MeasureT-loop
-μ-loop input₀ line₀ page₀ turns₀ at₀ held₀ waits₀ t11 t12 input line page turns at held waits = turns
+μ-loop input₀ line₀ page₀ turns₀ at₀ held₀ t11 t12 input line page turns at held = turns
 
 start-requires : tie.Need-start-requires Inv-loop μ-loop
 start-requires c κs = search needs
@@ -21,6 +21,9 @@ nothing-requires c κs = search needs
 
 loop-holds : tie.Need-loop-holds Inv-loop μ-loop
 loop-holds c = search needs
+
+sub-turns : tie.Need-sub-turns Inv-loop μ-loop
+sub-turns c = search needs
 
 slice-aggregate-fetch : tie.Need-slice-aggregate-fetch Inv-loop μ-loop
 slice-aggregate-fetch c = search needs
@@ -46,11 +49,8 @@ slice-aggregate-store c = search needs
 store-requires : tie.Need-store-requires Inv-loop μ-loop
 store-requires c κs = search needs
 
-sub-turns : tie.Need-sub-turns Inv-loop μ-loop
-sub-turns c = search needs
-
 loop-less : tie.Need-loop-less Inv-loop μ-loop
-loop-less c = search needs
+loop-less c = omega (arith, sub-turns (c .before .before .before .before .before .before .before .before .before .before .before .before .before .before .before .before .before .before))
 
 loop-again : tie.Need-loop-again Inv-loop μ-loop
 loop-again c =
@@ -90,6 +90,7 @@ run-spec =
     start-requires
     nothing-requires
     loop-holds
+    sub-turns
     slice-aggregate-fetch
     fetch-requires
     sub-pass
@@ -98,7 +99,6 @@ run-spec =
     pass-requires
     slice-aggregate-store
     store-requires
-    sub-turns
     loop-less
     loop-again
     same-length

@@ -3,7 +3,7 @@ use borrow.Author.Needs.{needs}
 use mathlib.Core.Path.{ap, _∙_}
 use Rattle.columns.specs.Parts.{partsOf}
 use Rattle.bitcalls.specs.Names.{callOf}
-use Rattle.bitcalls.proofs.Naming.{named}
+use Rattle.bitcalls.proofs.Arms.{named}
 use Rattle.bitcalls.proofs.names.call_of.Statement.{statement}
 use Rattle.bitcalls.proofs.names.call_of.Tie as tie
 

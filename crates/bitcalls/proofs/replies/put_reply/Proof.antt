@@ -3,7 +3,8 @@ use borrow.Author.Needs.{needs}
 use mathlib.Core.Path.{sym, _∙_}
 use borrow.Author.Tests.{not-true, not-false}
 use Rattle.text.proofs.Sheets.{same}
-use Rattle.bitcalls.proofs.Bytes.{stored-of}
+use Rattle.columns.proofs.Stored.{stored-bytes}
+use Rattle.bitcalls.specs.Text.{bytesMax}
 use Rattle.bitcalls.proofs.Fields.{buffer-within, not-good, by-form}
 use Rattle.bitcalls.proofs.replies.put_reply.Statement.{statement}
 use Rattle.bitcalls.proofs.replies.put_reply.Tie as tie
@@ -35,7 +36,7 @@ same-length c = search needs
 returns : tie.Need-returns
 returns c =
     let line = c .before .before .before .before .before .before .before .before .before .before .before .before .before .before .args .line .now in
-    let bytes = stored-of _ (search needs) (c .before .before .before .before .before .before .before .before .before .word .ensures) (c .before .before .before .before .before .before .before .bytes .ensures) in
+    let bytes = stored-bytes _ bytesMax (search needs) (c .before .before .before .before .before .before .before .before .before .word .ensures) (c .before .before .before .before .before .before .before .bytes .ensures) in
     same
     (not-good line (c .before .before .before .before .before .before .before .before .before .before .before .number .ensures) (c .before .before .before .before .before .before .before .before .before .before .number2 .ensures) bytes (sym (c .before .before .before .before .before .all .ensures) ∙ not-true _ (c .before .before .before .before .if1 .taken)))
     (c .before .before .put-malformed .ensures)
@@ -52,7 +53,7 @@ part-buffer-start c = search needs
 part-buffer-end : tie.Need-part-buffer-end
 part-buffer-end c =
     let line = c .before .before .before .before .before .before .before .before .before .before .before .args .line .now in
-    let bytes = stored-of _ (search needs) (c .before .before .before .before .before .before .word .ensures) (c .before .before .before .before .bytes .ensures) in
+    let bytes = stored-bytes _ bytesMax (search needs) (c .before .before .before .before .before .before .word .ensures) (c .before .before .before .before .bytes .ensures) in
     buffer-within line (c .before .before .before .before .before .before .before .before .number .ensures) (c .before .before .before .before .before .before .before .number2 .ensures) bytes (sym (c .before .before .all .ensures) ∙ not-false _ (c .before .if1 .left))
 
 place-requires : tie.Need-place-requires
@@ -67,7 +68,7 @@ same-length-2 c = search needs
 returns-2 : tie.Need-returns-2
 returns-2 c =
     let line = c .before .before .before .before .before .before .before .before .before .before .before .before .before .before .before .before .before .before .args .line .now in
-    let bytes = stored-of _ (search needs) (c .before .before .before .before .before .before .before .before .before .before .before .before .before .word .ensures) (c .before .before .before .before .before .before .before .before .before .before .before .bytes .ensures) in
+    let bytes = stored-bytes _ bytesMax (search needs) (c .before .before .before .before .before .before .before .before .before .before .before .before .before .word .ensures) (c .before .before .before .before .before .before .before .before .before .before .before .bytes .ensures) in
     same
     (by-form line (c .before .before .before .before .before .before .before .before .before .before .before .before .before .before .before .number .ensures) (c .before .before .before .before .before .before .before .before .before .before .before .before .before .before .number2 .ensures) bytes
     (sym (c .before .before .before .before .before .before .before .before .before .all .ensures) ∙ not-false _ (c .before .before .before .before .before .before .before .before .if1 .left))

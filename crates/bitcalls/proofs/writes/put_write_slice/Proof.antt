@@ -1,9 +1,10 @@
 -- `writes::put_write_slice` meets its contract: by what the VALUE is. Assumes nothing.
 use borrow.Author.Needs.{needs}
-use mathlib.Core.Path.{sym, _∙_}
+use mathlib.Core.Path.{refl, sym, _∙_}
 use borrow.Author.Tests.{not-true, not-false}
 use Rattle.text.proofs.Sheets.{same}
-use Rattle.bitcalls.proofs.Bytes.{stored-bytes}
+use Rattle.columns.proofs.Stored.{stored-bytes}
+use Rattle.bitcalls.specs.Text.{bytesMax}
 use Rattle.bitcalls.proofs.Values.{slice-bad, slice-other, slice}
 use Rattle.bitcalls.proofs.writes.put_write_slice.Statement.{statement}
 use Rattle.bitcalls.proofs.writes.put_write_slice.Tie as tie
@@ -23,7 +24,7 @@ same-length c = search needs
 returns : tie.Need-returns
 returns c =
     let a = c .before .before .before .before .before .before .before .before .before .before .before .before .args in
-    same (slice-bad (a .c) (a .s .now) (a .count) (a .text .now) (stored-bytes _ (search needs) _ (c .before .before .before .before .before .before .before .bytes .ensures)) (not-true _ (c .before .before .before .before .if1 .taken))) (c .before .before .put-malformed .ensures)
+    same (slice-bad (a .c) (a .s .now) (a .count) (a .text .now) (stored-bytes _ bytesMax (search needs) refl (c .before .before .before .before .before .before .before .bytes .ensures)) (not-true _ (c .before .before .before .before .if1 .taken))) (c .before .before .put-malformed .ensures)
 
 put-malformed-requires-2 : tie.Need-put-malformed-requires-2
 put-malformed-requires-2 c κs = search needs
@@ -34,7 +35,7 @@ same-length-2 c = search needs
 returns-2 : tie.Need-returns-2
 returns-2 c =
     let a = c .before .before .before .before .before .before .before .before .before .before .before .before .before .args in
-    same (slice-other (a .c) (a .s .now) (a .count) (a .text .now) (stored-bytes _ (search needs) _ (c .before .before .before .before .before .before .before .before .bytes .ensures)) (not-false _ (c .before .before .before .before .before .if1 .left)) (c .before .before .before .before .if2 .taken)) (c .before .before .put-malformed2 .ensures)
+    same (slice-other (a .c) (a .s .now) (a .count) (a .text .now) (stored-bytes _ bytesMax (search needs) refl (c .before .before .before .before .before .before .before .before .bytes .ensures)) (not-false _ (c .before .before .before .before .before .if1 .left)) (c .before .before .before .before .if2 .taken)) (c .before .before .put-malformed2 .ensures)
 
 sub-write-slice : tie.Need-sub-write-slice
 sub-write-slice c = search needs
@@ -44,7 +45,7 @@ part-write-slice-start c = search needs
 
 part-write-slice-end : tie.Need-part-write-slice-end
 part-write-slice-end c =
-    let stored = stored-bytes _ (search needs) _ (c .before .before .before .before .before .before .bytes .ensures) in
+    let stored = stored-bytes _ bytesMax (search needs) refl (c .before .before .before .before .before .before .bytes .ensures) in
     stored .within (sym (stored .good) ∙ not-false _ (c .before .before .before .if1 .left))
 
 write-slice-requires : tie.Need-write-slice-requires
@@ -63,7 +64,7 @@ returns-3 : tie.Need-returns-3
 returns-3 c =
     let a = c .before .before .before .before .before .before .before .before .before .before .before .before .before .before .before .before .before .before .before .before .args in
     same
-    (slice (a .c) (a .s .now) (a .count) (a .text .now) (stored-bytes _ (search needs) _ (c .before .before .before .before .before .before .before .before .before .before .before .before .before .before .before .bytes .ensures)) (not-false _ (c .before .before .before .before .before .before .before .before .before .before .before .before .if1 .left)) (c .before .before .before .before .before .before .before .before .before .before .before .if2 .left)
+    (slice (a .c) (a .s .now) (a .count) (a .text .now) (stored-bytes _ bytesMax (search needs) refl (c .before .before .before .before .before .before .before .before .before .before .before .before .before .before .before .bytes .ensures)) (not-false _ (c .before .before .before .before .before .before .before .before .before .before .before .before .if1 .left)) (c .before .before .before .before .before .before .before .before .before .before .before .if2 .left)
     (c .before .before .before .before .before .before .before .write-slice .ensures .0) (c .before .before .before .before .before .before .before .write-slice .ensures .1))
     (c .before .before .put-written .ensures)
 

@@ -1,29 +1,26 @@
 -- `decodes::put_walk` meets its contract: turn by turn, the lines of the readings so far stand on the page. Assumes nothing.
-use mathlib.Core.Path.{_≡_, refl, sym, ap, _∙_, subst}
+use mathlib.Core.Path.{_≡_, refl, sym, _∙_, subst}
 use mathlib.Core.Bool.{true, false}
-use mathlib.Core.List.{List}
-use Prim.Native.Nat.{ℕ}
 use denote.Ref.{now}
 use lib.ListN.{length}
-use native.Mathlib.Omega.{arith}
-use Rattle.text.specs.Sheet.{Puts}
 use Rattle.tables.specs.Table.{tableOf}
 use Rattle.tables.specs.Check.{checkOf}
 use Rattle.tables.specs.declared.Checked.the-variants.{Accepted}
 use Rattle.fields.specs.Payload.{payloadOf}
 use Rattle.reading.specs.declared.Next.{Next}
 use Rattle.reading.specs.declared.Walk.{Walk}
-use Rattle.reading.specs.Steps.{goesOn, startOf}
+use Rattle.reading.specs.Steps.{goesOn}
 use Rattle.reading.proofs.Looped.{heft, Turned, turned, came-on, came-last}
-use Rattle.frame_lines.specs.Decode.{turnText}
-use Rattle.frame_lines.proofs.Walked.{Printed, begins, goes, ends}
+use Rattle.text.proofs.Sheets.{same}
+use Rattle.frame_lines.specs.Lines.{readingLine}
+use Rattle.frame_lines.proofs.Walked.{Printed, begins, goes, turn-lines, ends}
 use borrow.Author.Needs.{needs}
 use Rattle.frame_lines.proofs.decodes.put_walk.Statement.{statement}
 use Rattle.frame_lines.proofs.decodes.put_walk.Tie as tie
 
 abbrev Inv-loop : tie.InvT-loop
 Inv-loop words payload room out₀ at walk₀ to₀ out walk to =
-    (checkOf (tableOf words) ≡ Accepted) × ((length out ≡ length out₀) × Printed (tableOf words) (payloadOf payload) room out₀ at out to walk)
+    (checkOf (tableOf words) ≡ Accepted) × ((length out ≡ length out₀) × Printed readingLine (tableOf words) (payloadOf payload) room out₀ at out to walk)
 
 abbrev μ-loop : tie.MeasureT-loop
 μ-loop words payload room out₀ at walk₀ to₀ out walk to = heft (tableOf words) (payloadOf payload) room walk
@@ -47,7 +44,7 @@ loop-holds c =
     let t = tableOf (now (a .words)) in
     let p = payloadOf (now (a .payload)) in (
       c .before .before .before .before .pre,
-      (refl, subst (λ (w : Walk). Printed t p (a .room) (now (a .out)) (a .at) (now (a .out)) (a .at) w) (sym (c .start .ensures)) (begins t p (a .room) (now (a .out)) (a .at))),
+      (refl, subst (λ (w : Walk). Printed readingLine t p (a .room) (now (a .out)) (a .at) (now (a .out)) (a .at) w) (sym (c .start .ensures)) (begins readingLine t p (a .room) (now (a .out)) (a .at))),
     )
 
 next-field-requires : tie.Need-next-field-requires Inv-loop μ-loop
@@ -77,7 +74,7 @@ loop-again c =
       l .loop .inv .0,
       (
         c .before .before .before .before .before .put-turn .kept .0 ∙ l .loop .inv .1 .0,
-        goes (tableOf (now (a .words))) (payloadOf (now (a .payload))) (a .room) (now (a .out)) (a .at) (l .loop .out) (l .loop .to) _ _ (l .loop .walk) n (l .loop .inv .1 .1) (left (c .before .before .before .before .before .before .before .before .before)) (on c) (c .before .before .before .before .before .put-turn .ensures),
+        goes readingLine (tableOf (now (a .words))) (payloadOf (now (a .payload))) (a .room) (l .loop .inv .1 .1) (left (c .before .before .before .before .before .before .before .before .before)) (on c) (same (turn-lines (n .answer) _ (on c)) (c .before .before .before .before .before .put-turn .ensures)),
       ),
     )
 
@@ -93,7 +90,7 @@ returns c =
     let a = c .before .before .before .before .before .before .before .before .before .before .before .before .before .before .before .args in
     let n = c .before .before .before .before .before .before .before .before .before .next-field .result in
     let o : goesOn (n .answer) ≡ false = came-last (n .answer) (n .walk .progress) _ (sym (c .before .before .came-to .ensures) ∙ c .enum-told2 .given .1) in
-    ends (tableOf (now (a .words))) (payloadOf (now (a .payload))) (a .room) (now (a .out)) (a .at) (l .loop .out) (l .loop .to) _ _ (l .loop .walk) n (l .loop .inv .1 .1) (left (c .before .before .before .before .before .before .before .before .before)) o (c .before .before .before .before .before .put-turn .ensures)
+    ends (tableOf (now (a .words))) (payloadOf (now (a .payload))) (a .room) (l .loop .inv .1 .1) (left (c .before .before .before .before .before .before .before .before .before)) o (c .before .before .before .before .before .put-turn .ensures)
 
 pub put-walk-spec : {M : Type 1} → statement M
 put-walk-spec =

@@ -1,58 +1,22 @@
--- `fields::place_of` is safe and ends. The measure is how many words are left. Assumes nothing.
-use Prim.Native.Nat.{_-_, _≤_}
+-- `fields::place_of` meets its contract: there is one place more than there are spaces. Assumes nothing.
 use borrow.Author.Needs.{needs}
+use Rattle.numbercalls.proofs.Codes.{by-place}
 use Rattle.numbercalls.proofs.fields.place_of.Statement.{statement}
 use Rattle.numbercalls.proofs.fields.place_of.Tie as tie
 
-abbrev Inv-loop : tie.InvT-loop
-Inv-loop name words i₀ i = i ≤ 32
+place-in-requires : tie.Need-place-in-requires
+place-in-requires c κs = search needs
 
-abbrev μ-loop : tie.MeasureT-loop
-μ-loop name words i₀ i = 32 - i
+marks-requires : tie.Need-marks-requires
+marks-requires c κs = search needs
 
-loop-holds : tie.Need-loop-holds Inv-loop μ-loop
-loop-holds c = search needs
+code-if-requires : tie.Need-code-if-requires
+code-if-requires c κs = search needs
 
-word-requires : tie.Need-word-requires Inv-loop μ-loop
-word-requires c κs = search needs
-
-same-requires : tie.Need-same-requires Inv-loop μ-loop
-same-requires c κs = search needs
-
-cast-t9 : tie.Need-cast-t9 Inv-loop μ-loop
-cast-t9 c = search needs
-
-returns : tie.Need-returns Inv-loop μ-loop
-returns c = search needs
-
-add-i : tie.Need-add-i Inv-loop μ-loop
-add-i c = search needs
-
-loop-less : tie.Need-loop-less Inv-loop μ-loop
-loop-less c = search needs
-
-loop-again : tie.Need-loop-again Inv-loop μ-loop
-loop-again c = search needs
-
-no-code-requires : tie.Need-no-code-requires Inv-loop μ-loop
-no-code-requires c κs = search needs
-
-returns-2 : tie.Need-returns-2 Inv-loop μ-loop
-returns-2 c = search needs
+returns : tie.Need-returns
+returns c =
+    let a = c .before .before .before .before .before .args in
+    by-place (a .name .now) (a .words .now) (c .before .before .place-in .ensures) (c .before .marks .ensures) (c .code-if .ensures)
 
 pub place-of-spec : {M : Type 1} → statement M
-place-of-spec =
-    tie.close
-    (tie.spec
-    Inv-loop
-    μ-loop
-    loop-holds
-    word-requires
-    same-requires
-    cast-t9
-    returns
-    add-i
-    loop-less
-    loop-again
-    no-code-requires
-    returns-2)
+place-of-spec = tie.close (tie.spec place-in-requires marks-requires code-if-requires returns)

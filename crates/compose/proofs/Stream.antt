@@ -1,0 +1,26 @@
+-- What the program prints, over any list of calls, whatever their chunks and their pages. Assumes nothing.
+use mathlib.Core.Path.{_≡_, refl}
+use mathlib.Core.List.{[], _∷_, _++_}
+use Prim.Native.Nat.{ℕ, _≤_}
+use native.Mathlib.Omega.{arith}
+use Rattle.text.specs.Refusals.{malformedText}
+use Rattle.columns.specs.Parts.{partsOf}
+use Rattle.columns.specs.Numbers.{numberIn}
+use Rattle.lines.specs.Machine.{newline}
+use Rattle.lines.specs.Program.{Program}
+use Rattle.lines.proofs.Programs.{program}
+use Rattle.compose.specs.Answers.{answered, orderText, pgnLine, lineMax}
+use Rattle.compose.specs.Records.{listsFrom}
+use Rattle.compose.proofs.Sizes.{answer-size}
+
+-- the bytes of a page
+abbrev pub pageSize : ℕ
+pageSize = 65536
+
+pub stream : Program answered lineMax pageSize
+stream = program answered lineMax pageSize (λ line. omega (arith, answer-size line))
+
+-- an empty line, and so one that is too long, is F 14
+pub empty-line : answered [] ≡ malformedText ++ newline ∷ []
+unfolding answered partsOf listsFrom orderText pgnLine numberIn
+empty-line = refl

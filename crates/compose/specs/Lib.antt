@@ -1,0 +1,5 @@
+pub mod Decimals
+pub mod Values
+pub mod Records
+pub mod Answers
+pub mod Contracts

@@ -1,0 +1,2 @@
+-- what `fetch` hands on, by whether a call is due
+mod Due
