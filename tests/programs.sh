@@ -1,7 +1,7 @@
 #!/usr/bin/env bash
-# The built programs on what one stdin file cannot hold: no input, no last newline, very long lines, any bytes at all, a pipe
-# that stays open, and input or output that fails.
-# Wants them in target/bin (rt check). Last line: 'N passed, M failed'.
+# The built programs on what one stdin file cannot hold: no input, no last newline, very long lines, any bytes at all, input
+# in pieces, a pipe that stays open, pages that are just full, and input or output that fails.
+# Wants them in target/bin (rt check), and a C compiler for tests/pieces.c. Last line: 'N passed, M failed'.
 set -u
 cd "$(dirname "$0")/.." || exit 1
 program=bitcalls
@@ -33,6 +33,9 @@ wrote() {
     fi
 }
 
+# pieces MODE..: $program, with its input handed to it as tests/pieces.c says.
+pieces() { "$work/pieces" "$@" sh tests/run.sh "target/bin/$program"; }
+
 # told NAME WHY: $work/err, what $program wrote to standard error, is one line that gives its name and WHY.
 told() {
     if echo "$program: $2" | cmp -s - "$work/err"; then
@@ -43,6 +46,11 @@ told() {
         echo "FAILED $program: $1: wanted '$program: $2', and standard error has '$(head -c 300 "$work/err")'"
     fi
 }
+
+if ! "${CC:-cc}" -std=c11 -O2 -Wall -Wextra -Werror tests/pieces.c -o "$work/pieces"; then
+    failed=$((failed + 1))
+    echo "FAILED tests/pieces.c: it was not compiled"
+fi
 
 printf 'read_u64 4 9 F01F' >"$work/in"
 printf 'ok 13 1FF\n' >"$work/wanted"
@@ -116,6 +124,21 @@ for program in bitcalls numbercalls tablecalls samopute readcalls compose; do
     ) >"$work/got"
     printf 'F 14\nF 14\n' >"$work/wanted"
     wrote "a line is answered while the input stays open"
+
+    # The stored list's first lines, in pieces: each read gets one of them.
+    head -n 40 "$list/stdin" >"$work/in"
+    run "$program" <"$work/in" >"$work/wanted"
+    for n in 1 7 64 1021; do
+        pieces "$n" <"$work/in" >"$work/got"
+        wrote "pieces of $n bytes"
+    done
+
+    # One piece whose answers are more than a page holds, and no more input: the last line is answered too. Only a page of
+    # readcalls holds the answers to a whole piece of empty lines.
+    case $program in samopute) lines=52429 ;; readcalls) continue ;; *) lines=13108 ;; esac
+    head -c "$lines" /dev/zero | tr '\0' '\n' | pieces hold $((5 * lines)) >"$work/got"
+    yes 'F 14' | head -n "$lines" >"$work/wanted"
+    wrote "a page is full, and the line that waits is answered before more is read"
 done
 
 program=samopute
@@ -133,7 +156,27 @@ same "lines over 70,000 digits: 15 and 7 with the true length, 14 for a digit to
 printf 'P 01F802 223\nR 0 - 0 8 A AA\nR 1 - 8 2 A 2\nR 3 - 16 16 A AAAA\nR 4 - 32 16 A AAAA\nE 64\nP 01F802 224\nF 7 224\n' >"$work/wanted"
 same "223 bytes are read, 224 are refused"
 
-# A frame whose lines cross the edge of the output buffer, at every place of it: nothing is lost or cut there.
+# A frame's answer at the end of a page, with each number of bytes left on it from none to one more than the answer has: empty
+# lines (5 bytes each) and an unknown PGN (12 bytes) fill the page, and each piece starts a page.
+frame=01F8022AFC5C3DC098FFFF
+echo "$frame" >"$work/one"
+run samopute <"$work/one" >"$work/lines"
+size=$(wc -c <"$work/lines")
+edges() {
+    LC_ALL=C awk -v "size=$size" -v "empty=$1" -v "unknown=$2" -v "frame=$3" -v "end=$4" 'BEGIN {
+        for (left = 0; left <= size + 1; left++) {
+            fill = 262144 - left
+            while (fill % 5 != 0) { printf "%s", unknown; fill -= 12 }
+            for (; fill > 0; fill -= 5) printf "%s", empty
+            printf "%s%s", frame, end
+        }
+    }'
+}
+edges '\n' '01F803\n' "$frame\n" '\001' | tr '\001' '\0' | pieces split >"$work/got"
+edges 'F 14\n' 'F 15 01F803\n' "$(sed 's/$/\\n/' "$work/lines" | tr -d '\n')" '' >"$work/wanted"
+wrote "a frame at every place of the edge of a page"
+
+# A frame of 151 lines across some edges.
 frame=$(grep -m 1 '^01F805.\{446\}$' crates/samopute/stdin)
 printf '%s\n' "$frame" >"$work/one"
 run samopute <"$work/one" >"$work/lines"
@@ -145,7 +188,7 @@ for n in $(seq 0 40); do
     for _ in $(seq "$n"); do echo 'F 14'; done
     for _ in $(seq 20); do cat "$work/lines"; done
 done >"$work/wanted"
-same "frames of 151 lines across the edges of the output buffer"
+same "frames of 151 lines across edges of a page"
 
 program=readcalls
 printf '64 223 1,800 01\r\n64 223 1,800 01' >"$work/in"
