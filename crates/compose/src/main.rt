@@ -46,13 +46,21 @@ const NAME: [u8; 7] = *b"compose";
 fn main() {
     let mut input = io::large_buffer();
     let mut line = [0u8; 8192];
+    let mut values = [0u8; orders::RECORDS_MAX];
+    let mut lent = [0u8; orders::TEXTS_MAX];
     let mut page = io::large_buffer();
-    run(&mut input, &mut line, &mut page);
+    run(&mut input, &mut line, &mut values, &mut lent, &mut page);
 }
 
 // A proved loop has to end, and nothing says that the input does. So the loop counts its turns down,
 // from a number that no run uses up.
-fn run(input: &mut [u8], line: &mut [u8], page: &mut [u8]) {
+fn run(
+    input: &mut [u8],
+    line: &mut [u8],
+    values: &mut [u8; orders::RECORDS_MAX],
+    lent: &mut [u8; orders::TEXTS_MAX],
+    page: &mut [u8],
+) {
     let mut turns = u64::MAX;
     let mut at = textio::start();
     let mut held = lines::nothing();
@@ -61,7 +69,16 @@ fn run(input: &mut [u8], line: &mut [u8], page: &mut [u8]) {
         at = textio::fetch(&NAME, input, at);
         let from = at.from;
         let to = at.to;
-        let p = orders::pass(held, at.waits, line, &input[from..to], page, 0);
+        let p = orders::pass(
+            held,
+            at.waits,
+            line,
+            values,
+            lent,
+            &input[from..to],
+            page,
+            0,
+        );
         held = p.held;
         at = textio::store(&NAME, page, p.to, p.taken, p.waits, at);
     }

@@ -16,10 +16,10 @@ use lines::Held;
 use lines::Passed;
 
 // The records of 2,000 values.
-const RECORDS_MAX: usize = 48000;
+pub(crate) const RECORDS_MAX: usize = 48000;
 
 // Two digits of a line are a byte of text, so there is always room: proofs/Room.antt.
-const TEXTS_MAX: usize = 4096;
+pub(crate) const TEXTS_MAX: usize = 4096;
 
 // Whether a field names a table.
 fn is_t(s: &[u8]) -> bool
@@ -63,20 +63,25 @@ fn values_from(line: &[u8]) -> usize
     first
 }
 
-// The answer to a line, with its newlines.
-fn put_answer(line: &[u8], out: &mut [u8], at: usize) -> usize
+// The answer to a line, with its newlines. What the lent values and texts then hold is left open: they
+// are lent so that they need not be cleared for each line.
+fn put_answer(
+    line: &[u8],
+    values: &mut [u8; RECORDS_MAX],
+    lent: &mut [u8; TEXTS_MAX],
+    out: &mut [u8],
+    at: usize,
+) -> usize
     ensures { λ r. ⌜ Puts (now (out .entry)) at (answered (now (line .entry))) (now (out .exit)) r ⌝ }
 {
-    let mut values = [0u8; RECORDS_MAX];
-    let mut lent = [0u8; TEXTS_MAX];
-    let listed = list_values(line, values_from(line), &mut values, &mut lent);
+    let listed = list_values(line, values_from(line), values, lent);
     if !listed.good {
         return put_malformed(out, at);
     }
     put_order(
         line,
-        part(&values, 0, listed.bytes),
-        part(&lent, 0, listed.text),
+        part(values, 0, listed.bytes),
+        part(lent, 0, listed.text),
         out,
         at,
     )
@@ -87,6 +92,8 @@ pub(crate) fn pass(
     held: Held,
     waits: bool,
     line: &mut [u8],
+    values: &mut [u8; RECORDS_MAX],
+    lent: &mut [u8; TEXTS_MAX],
     input: &[u8],
     out: &mut [u8],
     at: usize,
@@ -98,7 +105,7 @@ pub(crate) fn pass(
         p = lines::next(p, line, input);
         if p.waits {
             let known = p.held;
-            let to = put_answer(lines::line_of(known, line), out, p.to);
+            let to = put_answer(lines::line_of(known, line), values, lent, out, p.to);
             p = lines::answered(p, to, out.len());
         }
     }

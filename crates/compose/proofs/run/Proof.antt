@@ -7,11 +7,11 @@ use Rattle.compose.proofs.run.Statement.{statement}
 use Rattle.compose.proofs.run.Tie as tie
 
 abbrev Inv-loop : tie.InvT-loop
-Inv-loop input₀ line₀ page₀ turns₀ at₀ held₀ t11 t12 input line page turns at held =
+Inv-loop input₀ line₀ values₀ lent₀ page₀ turns₀ at₀ held₀ t12 t13 input line values lent page turns at held =
     (length input ≡ length input₀) × ((length line ≡ length line₀) × (length page ≡ length page₀))
 
 abbrev μ-loop : tie.MeasureT-loop
-μ-loop input₀ line₀ page₀ turns₀ at₀ held₀ t11 t12 input line page turns at held = turns
+μ-loop input₀ line₀ values₀ lent₀ page₀ turns₀ at₀ held₀ t12 t13 input line values lent page turns at held = turns
 
 start-requires : tie.Need-start-requires Inv-loop μ-loop
 start-requires c κs = search needs
@@ -50,11 +50,11 @@ store-requires : tie.Need-store-requires Inv-loop μ-loop
 store-requires c κs = search needs
 
 loop-less : tie.Need-loop-less Inv-loop μ-loop
-loop-less c = omega (arith, sub-turns (c .before .before .before .before .before .before .before .before .before .before .before .before .before .before .before .before .before .before))
+loop-less c = omega (arith, sub-turns (c .before .before .before .before .before .before .before .before .before .before .before .before .before .before .before .before .before .before .before .before))
 
 loop-again : tie.Need-loop-again Inv-loop μ-loop
 loop-again c =
-    let sizes = c .before .before .before .before .before .before .before .before .before .before .before .before .before .before .before .before .before .before .before .before .loop .inv in
+    let sizes = c .before .before .before .before .before .before .before .before .before .before .before .before .before .before .before .before .before .before .before .before .before .before .loop .inv in
     (omega (arith, sizes), (omega (arith, sizes), omega (arith, sizes)))
 
 same-length : tie.Need-same-length Inv-loop μ-loop

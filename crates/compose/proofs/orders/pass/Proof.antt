@@ -8,11 +8,11 @@ use Rattle.compose.proofs.orders.pass.Statement.{statement}
 use Rattle.compose.proofs.orders.pass.Tie as tie
 
 abbrev Inv-loop : tie.InvT-loop
-Inv-loop waits line₀ input out₀ at p₀ line out p =
+Inv-loop waits line₀ values₀ lent₀ input out₀ at p₀ line values lent out p =
     (length line ≡ length line₀) × ((length out ≡ length out₀) × Way answered input p₀ line₀ out₀ p line out)
 
 abbrev μ-loop : tie.MeasureT-loop
-μ-loop waits line₀ input out₀ at p₀ line out p = left input p
+μ-loop waits line₀ values₀ lent₀ input out₀ at p₀ line values lent out p = left input p
 
 begin-requires : tie.Need-begin-requires Inv-loop μ-loop
 begin-requires c κs = search needs
@@ -34,18 +34,18 @@ answered-requires c κs = search needs
 
 loop-less : tie.Need-loop-less Inv-loop μ-loop
 loop-less c =
-    let n = c .before .before .before .before .before .before .before .before .before .before .before in
+    let n = c .before .before .before .before .before .before .before .before .before .before .before .before .before in
     let l = n .before .before .before .before in
-    let waits = c .before .before .before .before .before .before .before .before .if2 .taken in
-    let turn = turn-put (l .loop .inv .1 .1) (n .before .before .if1 .taken) (n .next .ensures) waits (c .before .before .before .before .before .line-of .ensures) (c .before .before .before .put-answer .ensures) (c .answered .ensures) in
+    let waits = c .before .before .before .before .before .before .before .before .before .before .if2 .taken in
+    let turn = turn-put (l .loop .inv .1 .1) (n .before .before .if1 .taken) (n .next .ensures) waits (c .before .before .before .before .before .before .before .line-of .ensures) (c .before .before .before .put-answer .ensures) (c .answered .ensures) in
     turn .1
 
 loop-again : tie.Need-loop-again Inv-loop μ-loop
 loop-again c =
-    let n = c .before .before .before .before .before .before .before .before .before .before .before in
+    let n = c .before .before .before .before .before .before .before .before .before .before .before .before .before in
     let l = n .before .before .before .before in
-    let waits = c .before .before .before .before .before .before .before .before .if2 .taken in
-    let turn = turn-put (l .loop .inv .1 .1) (n .before .before .if1 .taken) (n .next .ensures) waits (c .before .before .before .before .before .line-of .ensures) (c .before .before .before .put-answer .ensures) (c .answered .ensures) in
+    let waits = c .before .before .before .before .before .before .before .before .before .before .if2 .taken in
+    let turn = turn-put (l .loop .inv .1 .1) (n .before .before .if1 .taken) (n .next .ensures) waits (c .before .before .before .before .before .before .before .line-of .ensures) (c .before .before .before .put-answer .ensures) (c .answered .ensures) in
     (search needs, (search needs, turn .0))
 
 loop-less-2 : tie.Need-loop-less-2 Inv-loop μ-loop

@@ -1,6 +1,4 @@
 -- `orders::put_answer` meets its contract: by whether the values are listed. Assumes nothing.
-use Prim.Native.Nat.{ℕ}
-use lib.ListN.{length-replicate}
 use denote.Ref.{now}
 use borrow.Author.Tests.{not-true, not-false}
 use Rattle.text.proofs.Sheets.{same}
@@ -11,12 +9,6 @@ use Rattle.compose.proofs.orders.put_answer.Tie as tie
 
 values-from-requires : tie.Need-values-from-requires
 values-from-requires c κs = search needs
-
-slice-aggregate-list-values : tie.Need-slice-aggregate-list-values
-slice-aggregate-list-values c = search needs
-
-slice-aggregate-list-values-2 : tie.Need-slice-aggregate-list-values-2
-slice-aggregate-list-values-2 c = search needs
 
 list-values-requires : tie.Need-list-values-requires
 list-values-requires c κs = search needs
@@ -29,17 +21,12 @@ same-length c = search needs
 
 returns : tie.Need-returns
 returns c =
-    let l = c .before .before .before .before .before .before .before .before .list-values in
-    same (not-listed (now (c .before .before .before .before .before .before .before .before .before .before .before .before .before .before .args .line)) (c .before .before .before .before .before .before .before .before .before .before .before .values-from .result) (l .result) (l .last .1 .1 .0) (l .last .1 .1 .1 .0) (c .before .before .before .before .before .before .before .before .before .before .before .values-from .ensures) (length-replicate {A = ℕ} 48000 0) (length-replicate {A = ℕ} 4096 0) (l .ensures) (not-true _ (c .before .before .before .before .if1 .taken))) (c .before .before .put-malformed .ensures)
-
-slice-aggregate-part : tie.Need-slice-aggregate-part
-slice-aggregate-part c = search needs
+    let l = c .before .before .before .before .before .before .list-values in
+    let from = c .before .before .before .before .before .before .before .before .before .values-from in
+    same (not-listed (now (c .before .before .before .before .before .before .before .before .before .before .before .before .args .line)) (from .result) (l .result) (l .last .1 .1 .0) (l .last .1 .1 .1 .0) (from .ensures) (search needs) (search needs) (l .ensures) (not-true _ (c .before .before .before .before .if1 .taken))) (c .before .before .put-malformed .ensures)
 
 part-requires : tie.Need-part-requires
 part-requires c κs = search needs
-
-slice-aggregate-part-2 : tie.Need-slice-aggregate-part-2
-slice-aggregate-part-2 c = search needs
 
 part-requires-2 : tie.Need-part-requires-2
 part-requires-2 c κs = search needs
@@ -53,22 +40,19 @@ same-length-2 c = search needs
 returns-2 : tie.Need-returns-2
 returns-2 c =
     let l = c .before .before .before .before .before .before .before .before .before .before .before .before .list-values in
-    same (ordered (now (c .before .before .before .before .before .before .before .before .before .before .before .before .before .before .before .before .before .before .args .line)) (c .before .before .before .before .before .before .before .before .before .before .before .before .before .before .before .values-from .result) (l .result) (l .last .1 .1 .0) (l .last .1 .1 .1 .0) (c .before .before .before .before .before .before .before .before .before .before .before .before .before .before .before .values-from .ensures) (length-replicate {A = ℕ} 48000 0) (length-replicate {A = ℕ} 4096 0) (l .ensures) (not-false _ (c .before .before .before .before .before .before .before .before .if1 .left)) (c .before .before .before .before .before .before .part .ensures) (c .before .before .before .before .part2 .ensures)) (c .before .before .put-order .ensures)
+    let from = c .before .before .before .before .before .before .before .before .before .before .before .before .before .before .before .values-from in
+    same (ordered (now (c .before .before .before .before .before .before .before .before .before .before .before .before .before .before .before .before .before .before .args .line)) (from .result) (l .result) (l .last .1 .1 .0) (l .last .1 .1 .1 .0) (from .ensures) (search needs) (search needs) (l .ensures) (not-false _ (c .before .before .before .before .before .before .before .before .before .before .if1 .left)) (c .before .before .before .before .before .before .before .part .ensures) (c .before .before .before .before .part2 .ensures)) (c .before .before .put-order .ensures)
 
 pub put-answer-spec : {M : Type 1} → statement M
 put-answer-spec =
     tie.close
     (tie.spec
     values-from-requires
-    slice-aggregate-list-values
-    slice-aggregate-list-values-2
     list-values-requires
     put-malformed-requires
     same-length
     returns
-    slice-aggregate-part
     part-requires
-    slice-aggregate-part-2
     part-requires-2
     put-order-requires
     same-length-2
