@@ -2,13 +2,14 @@
 use mathlib.Core.Path.{_≡_, refl, sym, _∙_}
 use mathlib.Core.Bool.{Bool, true, false, _||_, _&&_}
 use mathlib.Core.List.{List}
+use mathlib.Core.Logic.{inl}
 use Prim.Native.Nat.{ℕ, _≤_}
 use native.Mathlib.Omega.{arith}
 use borrow.Author.Tests.{leb-true}
 use lib.Dec.{leb, ltb}
 use lib.ListN.{length}
 use Rattle.textio.specs.declared.Io.{Io}
-use Rattle.textio.specs.Io.{closedIo, dueIn, Fetches}
+use Rattle.textio.specs.Io.{closedIo, dueIn, Reads, Fetches}
 
 never : {A : Type 0} → _≡_ {A = Bool} true false → A
 never e = let z : _≡_ {A = ℕ} 0 1 = cc in absurd (omega arith)
@@ -33,14 +34,14 @@ module _ (at : Io) (s : List ℕ) where
   pub ended : {t : Bool} {r : Io} → t ≡ dueIn at (length s) → t ≡ false → r ≡ closedIo at → Fetches r s at s
   ended is e c = record {
     due = λ d. never (sym d ∙ sym is ∙ e);
-    fresh = λ d. rw c;
+    fresh = λ d. inl c;
     over = λ d f. c;
   }
 
   -- a chunk was read, from its start
-  pub began : {t : Bool} {r : Io} {new : List ℕ} → t ≡ dueIn at (length s) → t ≡ false → at .ended ≡ false → r .from ≤ 0 → Fetches r new at s
-  began is e goes first = record {
+  pub began : {t : Bool} {r : Io} {new : List ℕ} → t ≡ dueIn at (length s) → t ≡ false → at .ended ≡ false → Reads r new at → Fetches r new at s
+  began is e goes was = record {
     due = λ d. never (sym d ∙ sym is ∙ e);
-    fresh = λ d. omega arith;
+    fresh = λ d. was;
     over = λ d f. never (sym f ∙ goes);
   }

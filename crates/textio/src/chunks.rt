@@ -2,7 +2,7 @@
 ghost use Prim.Native.Nat.{_≤_};
 ghost use mathlib.Core.Path.{_≡_};
 ghost use lib.ListN.{length};
-ghost use Rattle.textio.specs.Io.{startIo, closedIo, dueIn, movedTo, Fetches, Stores};
+ghost use Rattle.textio.specs.Io.{startIo, closedIo, dueIn, movedTo, Reads, Fetches, Stores};
 use crate::Io;
 use libc::STDERR_FILENO;
 use libc::STDIN_FILENO;
@@ -58,6 +58,7 @@ pub fn fetch(name: &[u8], input: &mut [u8], at: Io) -> Io
 
 // The next chunk, from the start of the buffer.
 fn read(name: &[u8], input: &mut [u8], at: Io) -> Io
+    ensures { λ r. ⌜ Reads r (now (input .exit)) at ⌝ }
     ensures { λ r. ⌜ (r .from ≤ 0) × (r .to ≤ length (now (input .entry))) ⌝ }
 {
     let got = libc::read(STDIN_FILENO, &mut *input);
@@ -81,6 +82,7 @@ fn read(name: &[u8], input: &mut [u8], at: Io) -> Io
 
 // The input has ended: a line with no newline gets one.
 fn last(input: &mut [u8], at: Io) -> Io
+    ensures { λ r. ⌜ Reads r (now (input .exit)) at ⌝ }
     ensures { λ r. ⌜ (r .from ≤ 0) × (r .to ≤ length (now (input .entry))) ⌝ }
 {
     if !at.inside {

@@ -38,7 +38,7 @@ same-length c = search needs
 returns-3 : tie.Need-returns-3
 returns-3 c =
     let r = c .before .before in
-    (began _ _ (r .before .before .before .before .is-due .ensures) (r .before .before .before .if1 .left) (r .before .before .if2 .left) (r .read .ensures .0), omega arith)
+    (began _ _ (r .before .before .before .before .is-due .ensures) (r .before .before .before .if1 .left) (r .before .before .if2 .left) (r .read .ensures .0), search needs)
 
 pub fetch-spec : {M : Type 1} → statement M
 fetch-spec =
