@@ -10,7 +10,7 @@ use Rattle.text.specs.Digits.{spaced, bytesText}
 use Rattle.text.specs.Refusals.{refusedText}
 use Rattle.columns.specs.Parts.{space, partsOf, field}
 use Rattle.columns.specs.Numbers.{decimalIn, hexIn}
-use Rattle.columns.specs.Runs.{allNumbers, valuesOf}
+use Rattle.columns.specs.Runs.{valuesOf, isWords}
 use Rattle.lines.specs.Machine.{newline, textOf}
 use Rattle.lines.specs.Held.{capped}
 use Rattle.tables.specs.Table.{tableOf}
@@ -64,7 +64,7 @@ comma = 44
 
 -- "1 to 200, of 1 to 16 digits, set apart by commas"
 abbrev pub areWords : List ℕ → Bool
-areWords s = allNumbers (partsOf comma s) && leb (length (partsOf comma s)) 200
+areWords = isWords comma 200
 
 -- "SIZE is decimal, 0 to 300"
 abbrev pub isSize : List ℕ → Bool
