@@ -2,17 +2,16 @@
 use mathlib.Core.Path.{_≡_, refl, sym, ap, _∙_}
 use mathlib.Core.Bool.{Bool, true, false}
 use mathlib.Core.List.{List, [], _∷_}
-use Prim.Native.Nat.{ℕ, suc, _+_, _≤_, _<_}
+use Prim.Native.Nat.{ℕ, suc, _+_, _-_, _≤_, _<_}
 use native.Mathlib.Omega.{arith}
 use borrow.Author.Tests.{eq-eqb, eqb-true}
 use lib.Dec.{eqb}
-use lib.ListN.{length, getD, drop, drop-of-length-le}
-use lib.Seq.{drop-cons}
-use native.Mathlib.Numerals.{add-one}
+use lib.ListN.{length, take, drop}
 use Rattle.bits.specs.Bits.{pick}
 use Rattle.hexadecimal.proofs.Inverse.{both}
-use Rattle.columns.specs.Parts.{marksIn}
+use Rattle.columns.specs.Parts.{partEnd, partsOf}
 use Rattle.columns.specs.Names.{same, placeIn}
+use Rattle.columns.proofs.Cuts.{part-last, part-more, part-first}
 
 same-all : (xs : List ℕ) → same xs xs ≡ true
 unfolding same
@@ -43,24 +42,21 @@ told false xs ys h = go (same xs ys) refl
 
 -- ## The place of a name, word by word
 
-module _ (name : List ℕ) (ps : List (List ℕ)) (i : ℕ) where
-  pub at-name : i < length ps → same name (getD ps i []) ≡ true → i + placeIn name (drop i ps) ≡ i
-  unfolding placeIn
-  at-name l e = rw (drop-cons ps i [] l, e) (omega arith)
+-- from the word on that starts at `from` and ends at `end`
+module _ (name : List ℕ) (mark : ℕ) (s : List ℕ) (from end : ℕ) (h : from ≤ length s) (e : end ≡ partEnd mark from s) where
+  abbrev word : List ℕ
+  word = take (end - from) (drop from s)
 
-  pub at-other : i < length ps → same name (getD ps i []) ≡ false → i + placeIn name (drop i ps) ≡ i + 1 + placeIn name (drop (i + 1) ps)
+  pub at-name : end ≤ length s → same name word ≡ true → placeIn name (partsOf mark (drop from s)) ≡ 0
   unfolding placeIn
-  at-other l e = rw (drop-cons ps i [] l, e, add-one) (omega arith)
+  at-name l g = let f = part-first mark s from end h e l in ap (placeIn name) (f .1) ∙ ap (λ (t : Bool). pick t 0 (suc (placeIn name (f .0)))) g
 
-  pub at-end : length ps ≤ i → i + placeIn name (drop i ps) ≡ i
+  pub at-last : end ≡ length s → same name word ≡ false → placeIn name (partsOf mark (drop from s)) ≡ 1
   unfolding placeIn
-  at-end l = rw (drop-of-length-le ps l) (omega arith)
+  at-last l g = ap (placeIn name) (part-last mark s from end h e l) ∙ ap (λ (t : Bool). pick t 0 1) g
 
-pub marks-few : (mark : ℕ) (s : List ℕ) → marksIn mark s ≤ length s
-unfolding marksIn
-marks-few mark [] = omega arith
-marks-few mark (b ∷ bs) = go (eqb b mark) (marks-few mark bs)
-  where
-    go : (t : Bool) → marksIn mark bs ≤ length bs → pick t 1 0 + marksIn mark bs ≤ suc (length bs)
-    go true l = omega arith
-    go false l = omega arith
+  pub at-other : end < length s → same name word ≡ false → placeIn name (partsOf mark (drop from s)) ≡ suc (placeIn name (partsOf mark (drop (end + 1) s)))
+  unfolding placeIn
+  at-other l g =
+      ap (placeIn name) (part-more mark s from end h e l)
+      ∙ ap (λ (t : Bool). pick t 0 (suc (placeIn name (partsOf mark (drop (end + 1) s))))) g

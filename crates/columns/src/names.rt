@@ -2,8 +2,8 @@
 ghost use mathlib.Core.Path.{_≡_};
 ghost use Rattle.columns.specs.Parts.{space, partsOf};
 ghost use Rattle.columns.specs.Names.{same, placeIn};
-use crate::parts::marks;
-use crate::parts::word;
+use crate::parts::field_end;
+use crate::parts::part;
 
 // Whether two texts are the same.
 pub fn same(a: &[u8], b: &[u8]) -> bool
@@ -16,13 +16,17 @@ pub fn same(a: &[u8], b: &[u8]) -> bool
 pub fn place_in(name: &[u8], text: &[u8]) -> usize
     ensures { λ r. ⌜ r ≡ placeIn (now (name .entry)) (partsOf space (now (text .entry))) ⌝ }
 {
-    let last = marks(text, b' ');
-    let mut i = 0;
-    while i <= last {
-        if same(name, word(text, i)) {
+    let mut from: usize = 0;
+    let mut i: usize = 0;
+    loop {
+        let end = field_end(text, from);
+        if same(name, part(text, from, end)) {
             return i;
         }
         i += 1;
+        if end == text.len() {
+            return i;
+        }
+        from = end + 1;
     }
-    i
 }
