@@ -3,6 +3,7 @@ ghost use Rattle.text.specs.Sheet.{Puts};
 ghost use Rattle.frames.specs.Frames.{frameBy};
 ghost use Rattle.printing.specs.Answers.{payloadText, answerBy};
 use bits::ByteCount;
+use bits::Part;
 use fields::DecodeRefusal;
 use frame_lines::put_decode;
 use frame_lines::put_frame;
@@ -25,10 +26,11 @@ fn put_payload(message: Message, buffer: &[u8], received: usize, out: &mut [u8],
         };
         return put_refusal(out, at, e);
     }
-    if received <= buffer.len() {
-        return put_decode(message, &buffer[0..received], out, at);
-    }
-    put_decode(message, buffer, out, at)
+    let payload = Part {
+        start: ByteCount(0),
+        len: ByteCount(received),
+    };
+    put_decode(message, payload.bytes(buffer), out, at)
 }
 
 // The answer to a line, by what is known of it and by the buffer that holds its payload.

@@ -1,14 +1,12 @@
 -- `answers::put_payload` meets its contract. Assumes nothing.
-use mathlib.Core.Path.{_≡_, refl, sym, ap, _∙_}
+use mathlib.Core.Path.{_≡_, sym, ap, _∙_}
 use mathlib.Core.Bool.{Bool}
 use mathlib.Core.List.{List}
-use Prim.Native.Nat.{ℕ, _-_, _≤_, _<_}
-use native.Mathlib.Omega.{arith}
+use Prim.Native.Nat.{ℕ, _≤_, _<_}
 use denote.Ref.{now}
 use borrow.Author.Needs.{needs}
 use borrow.Author.Tests.{lt-ltb, le-ltb}
-use lib.ListN.{length, take}
-use lib.Seq.{take-all}
+use lib.ListN.{take}
 use Rattle.bits.specs.Bits.{pick}
 use Rattle.bits.specs.Calls.{bytes}
 use Rattle.text.proofs.Sheets.{same}
@@ -47,14 +45,8 @@ same-length c = search needs
 returns : tie.Need-returns
 returns c = let a = c .before .before .before .before .before .before .before .args in same (over (a .message) (a .received) (now (a .buffer)) (c .before .before .before .before .if1 .taken)) (c .before .before .put-refusal .ensures)
 
-sub-put-decode : tie.Need-sub-put-decode
-sub-put-decode c = search needs
-
-part-put-decode-start : tie.Need-part-put-decode-start
-part-put-decode-start c = search needs
-
-part-put-decode-end : tie.Need-part-put-decode-end
-part-put-decode-end c = search needs
+bytes-requires : tie.Need-bytes-requires
+bytes-requires c κs = search needs
 
 put-decode-requires : tie.Need-put-decode-requires
 put-decode-requires c κs = search needs
@@ -64,21 +56,9 @@ same-length-2 c = search needs
 
 returns-2 : tie.Need-returns-2
 returns-2 c =
-    let a = c .before .before .before .before .before .before .before .before .before .args in
-    let e : a .received - 0 ≡ a .received = omega arith in
-    same (within (a .message) (a .received) (now (a .buffer)) (c .before .before .before .before .before .before .if1 .left) _ (ap (λ (n : ℕ). take n (now (a .buffer))) e)) (c .before .before .put-decode .ensures)
-
-put-decode-requires-2 : tie.Need-put-decode-requires-2
-put-decode-requires-2 c κs = search needs
-
-same-length-3 : tie.Need-same-length-3
-same-length-3 c = search needs
-
-returns-3 : tie.Need-returns-3
-returns-3 c =
-    let a = c .before .before .before .before .before .before .before .before .args in
-    let all : now (a .buffer) ≡ take (a .received) (now (a .buffer)) = sym (take-all (a .received) (now (a .buffer)) (omega (arith, c .before .before .before .before .if2 .left))) in
-    same (within (a .message) (a .received) (now (a .buffer)) (c .before .before .before .before .before .if1 .left) _ all) (c .before .before .put-decode2 .ensures)
+    let known = c .before .before .before .before in
+    let a = known .before .before .before .before .args in
+    same (within (a .message) (a .received) (now (a .buffer)) (known .before .if1 .left) _ (known .bytes .ensures)) (c .before .before .put-decode .ensures)
 
 pub put-payload-spec : {M : Type 1} → statement M
 put-payload-spec =
@@ -87,12 +67,7 @@ put-payload-spec =
     put-refusal-requires
     same-length
     returns
-    sub-put-decode
-    part-put-decode-start
-    part-put-decode-end
+    bytes-requires
     put-decode-requires
     same-length-2
-    returns-2
-    put-decode-requires-2
-    same-length-3
-    returns-3)
+    returns-2)
