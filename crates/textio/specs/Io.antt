@@ -1,6 +1,6 @@
 -- Where a program stands with its input and output: what is handed on from call to call. What is read and written no contract can say.
 use mathlib.Core.Path.{_≡_}
-use Prim.Native.Nat.{ℕ, _+_, _-_, _≤_}
+use Prim.Native.Nat.{ℕ, _+_, _-_, _<_}
 use mathlib.Core.List.{List}
 use mathlib.Core.Bool.{Bool, true, false, not, _||_, _&&_}
 use mathlib.Core.Logic.{_⊎_}
@@ -32,10 +32,10 @@ readIo at n chunk = record { from = 0; to = n; waits = at .waits; inside = not (
 abbrev pub lastIo : Io → Io
 lastIo at = record { from = 0; to = 1; waits = at .waits; inside = false; ended = true; more = true }
 
--- what a read leaves: no more to do, at the end or where the input fails; the newline that the last line lacks; or a chunk
+-- what a read leaves: no more to do, at the end or where the input fails; the newline that the last line lacks; or a chunk of at least a byte
 abbrev pub Reads : Io → List ℕ → Io → Type 0
 Reads r chunk at =
-    (r ≡ closedIo at) ⊎ (((r ≡ lastIo at) × ((at .inside ≡ true) × (getD chunk 0 0 ≡ 10))) ⊎ (r ≡ readIo at (r .to) chunk))
+    (r ≡ closedIo at) ⊎ (((r ≡ lastIo at) × ((at .inside ≡ true) × (getD chunk 0 0 ≡ 10))) ⊎ ((r ≡ readIo at (r .to) chunk) × (0 < r .to)))
 
 -- `fetch`: what is left of a chunk is handed on before anything is read, and so is a line that waits; what is read is a chunk from its start
 pub record Fetches (r : Io) (new : List ℕ) (at : Io) (old : List ℕ) : Type 0 where

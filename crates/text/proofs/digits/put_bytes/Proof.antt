@@ -10,27 +10,21 @@ use Rattle.text.proofs.digits.put_bytes.Lts as lts
 use Rattle.text.proofs.digits.put_pairs.Reads as put-pairs-reads
 use Rattle.text.proofs.puts.put.Reads as put-reads
 
--- src/digits.rt:108:9
 put-requires : tie.Need-put-requires
 put-requires c κs = search needs
 
--- src/digits.rt:108:9
 same-length : tie.Need-same-length
 same-length c = search needs
 
--- src/digits.rt:108:9
 returns : tie.Need-returns
 returns c = same (bytes-none (now (c .before .before .before .before .before .before .before .args .s)) (search needs)) (c .before .before .put .ensures)
 
--- src/digits.rt:110:5
 put-pairs-requires : tie.Need-put-pairs-requires
 put-pairs-requires c κs = search needs
 
--- src/digits.rt:104:1
 same-length-2 : tie.Need-same-length-2
 same-length-2 c = search needs
 
--- src/digits.rt:104:1
 returns-2 : tie.Need-returns-2
 returns-2 c = same (bytes-some (now (c .before .before .before .before .before .before .before .args .s)) (search needs)) (c .before .before .put-pairs .ensures)
 

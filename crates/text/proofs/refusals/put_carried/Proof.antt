@@ -11,42 +11,33 @@ use Rattle.text.proofs.refusals.put_carried.Lts as lts
 use Rattle.text.proofs.digits.put_number.Reads as put-number-reads
 use Rattle.text.proofs.puts.put.Reads as put-reads
 
--- src/refusals.rt:20:13
 put-requires : tie.Need-put-requires
 put-requires c κs = search needs
 
--- src/refusals.rt:21:29
 add-put : tie.Need-add-put
 add-put c = search needs
 
--- src/refusals.rt:21:28
 cast-put : tie.Need-cast-put
 cast-put c = search needs
 
--- src/refusals.rt:21:9
 put-requires-2 : tie.Need-put-requires-2
 put-requires-2 c κs = search needs
 
--- src/refusals.rt:21:9
 same-length : tie.Need-same-length
 same-length c = search needs
 
--- src/refusals.rt:21:9
 returns : tie.Need-returns
 returns c =
     let a = c .before .before .before .before .before .before .before .before .before .before .args in
     let is = c .before .before .before .before .before .before .before .before .if1 .taken in
     same (sym (ap (λ (t : Bool). carriedText t (a .value)) is)) (then (c .before .before .before .before .before .before .put .ensures) (c .before .before .put2 .ensures))
 
--- src/refusals.rt:23:5
 put-number-requires : tie.Need-put-number-requires
 put-number-requires c κs = search needs
 
--- src/refusals.rt:16:1
 same-length-2 : tie.Need-same-length-2
 same-length-2 c = search needs
 
--- src/refusals.rt:16:1
 returns-2 : tie.Need-returns-2
 returns-2 c =
     let a = c .before .before .before .before .before .before .args in

@@ -12,21 +12,17 @@ use Rattle.text.proofs.refusals.put_if.Reads as reads
 use Rattle.text.proofs.refusals.put_if.Lts as lts
 use Rattle.text.proofs.refusals.put_carried.Reads as put-carried-reads
 
--- src/refusals.rt:31:9
 put-carried-requires : tie.Need-put-carried-requires
 put-carried-requires c κs = search needs
 
--- src/refusals.rt:31:9
 same-length : tie.Need-same-length
 same-length c = search needs
 
--- src/refusals.rt:31:9
 returns : tie.Need-returns
 returns c =
     let a = c .before .before .before .before .before .before .args in
     same (sym (ap (λ (t : Bool). pick t (carriedText (a .is-rule) (a .value)) []) (c .before .before .before .before .if1 .taken))) (c .before .before .put-carried .ensures)
 
--- src/refusals.rt:27:1
 returns-2 : tie.Need-returns-2
 returns-2 c =
     let a = c .before .before .args in

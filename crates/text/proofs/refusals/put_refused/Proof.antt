@@ -15,31 +15,24 @@ use Rattle.text.proofs.digits.put_number.Reads as put-number-reads
 use Rattle.text.proofs.puts.put.Reads as put-reads
 use Rattle.text.proofs.refusals.put_if.Reads as put-if-reads
 
--- src/refusals.rt:48:9
 put-requires : tie.Need-put-requires
 put-requires c κs = search needs
 
--- src/refusals.rt:49:9
 put-number-requires : tie.Need-put-number-requires
 put-number-requires c κs = search needs
 
--- src/refusals.rt:50:9
 put-if-requires : tie.Need-put-if-requires
 put-if-requires c κs = search needs
 
--- src/refusals.rt:51:9
 put-if-requires-2 : tie.Need-put-if-requires-2
 put-if-requires-2 c κs = search needs
 
--- src/refusals.rt:52:5
 put-if-requires-3 : tie.Need-put-if-requires-3
 put-if-requires-3 c κs = search needs
 
--- src/refusals.rt:37:1
 same-length : tie.Need-same-length
 same-length c = search needs
 
--- src/refusals.rt:37:1
 returns : tie.Need-returns
 returns c =
     let a = c .before .before .before .before .before .before .before .before .before .before .before .before .before .before .before .before .before .before .before .before .before .args in

@@ -10,31 +10,24 @@ use Rattle.textio.proofs.chunks.closed.Reads as closed-reads
 use Rattle.textio.proofs.chunks.is_due.Reads as is-due-reads
 use Rattle.textio.proofs.chunks.read.Reads as read-reads
 
--- src/chunks.rt:50:8
 is-due-requires : tie.Need-is-due-requires
 is-due-requires c κs = search needs
 
--- src/chunks.rt:51:9
 returns : tie.Need-returns
 returns c = kept _ _ (c .before .is-due .ensures) (c .if1 .taken)
 
--- src/chunks.rt:54:9
 closed-requires : tie.Need-closed-requires
 closed-requires c κs = search needs
 
--- src/chunks.rt:54:9
 returns-2 : tie.Need-returns-2
 returns-2 c = (ended _ _ (c .before .before .before .is-due .ensures) (c .before .before .if1 .left) (c .closed .ensures .0), search needs)
 
--- src/chunks.rt:56:5
 read-requires : tie.Need-read-requires
 read-requires c κs = search needs
 
--- src/chunks.rt:46:1
 same-length : tie.Need-same-length
 same-length c = search needs
 
--- src/chunks.rt:46:1
 returns-3 : tie.Need-returns-3
 returns-3 c =
     let r = c .before .before in

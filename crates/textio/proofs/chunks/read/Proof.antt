@@ -45,7 +45,7 @@ same-length-3 : tie.Need-same-length-3
 same-length-3 c = search needs
 
 returns-3 : tie.Need-returns-3
-returns-3 c = (inr (inr refl), search needs)
+returns-3 c = (inr (inr (refl, search needs)), search needs)
 
 pub read-spec : {M : Type 1} → statement M
 read-spec =

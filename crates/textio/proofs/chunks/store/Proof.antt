@@ -10,87 +10,66 @@ use Rattle.textio.proofs.chunks.closed.Reads as closed-reads
 use Rattle.textio.proofs.chunks.moved.Reads as moved-reads
 use Rattle.textio.proofs.chunks.tell.Reads as tell-reads
 
--- src/chunks.rt:126:9
 closed-requires : tie.Need-closed-requires
 closed-requires c κs = search needs
 
--- src/chunks.rt:126:9
 returns : tie.Need-returns
 returns c = inr (c .closed .ensures .0)
 
--- src/chunks.rt:128:8
 sub-if3 : tie.Need-sub-if3
 sub-if3 c = search needs
 
--- src/chunks.rt:129:9
 closed-requires-2 : tie.Need-closed-requires-2
 closed-requires-2 c κs = search needs
 
--- src/chunks.rt:129:9
 returns-2 : tie.Need-returns-2
 returns-2 c = inr (c .closed2 .ensures .0)
 
--- src/chunks.rt:132:9
 write-all-requires : tie.Need-write-all-requires
 write-all-requires c κs = search needs
 
--- src/chunks.rt:133:38
 slice-aggregate-write-all : tie.Need-slice-aggregate-write-all
 slice-aggregate-write-all c = search needs
 
--- src/chunks.rt:133:9
 write-all-requires-2 : tie.Need-write-all-requires-2
 write-all-requires-2 c κs = search needs
 
--- src/chunks.rt:134:9
 closed-requires-3 : tie.Need-closed-requires-3
 closed-requires-3 c κs = search needs
 
--- src/chunks.rt:134:9
 returns-3 : tie.Need-returns-3
 returns-3 c = inr (c .closed3 .ensures .0)
 
--- src/chunks.rt:136:37
 sub-write-all : tie.Need-sub-write-all
 sub-write-all c = search needs
 
--- src/chunks.rt:136:37
 part-write-all-start : tie.Need-part-write-all-start
 part-write-all-start c = search needs
 
--- src/chunks.rt:136:37
 part-write-all-end : tie.Need-part-write-all-end
 part-write-all-end c = search needs
 
--- src/chunks.rt:136:8
 write-all-requires-3 : tie.Need-write-all-requires-3
 write-all-requires-3 c κs = search needs
 
--- src/chunks.rt:137:26
 add-moved : tie.Need-add-moved
 add-moved c = search needs
 
--- src/chunks.rt:137:9
 moved-requires : tie.Need-moved-requires
 moved-requires c κs = search needs
 
--- src/chunks.rt:137:9
 returns-4 : tie.Need-returns-4
 returns-4 c = inl (c .moved .ensures)
 
--- src/chunks.rt:139:16
 slice-aggregate-tell : tie.Need-slice-aggregate-tell
 slice-aggregate-tell c = search needs
 
--- src/chunks.rt:139:5
 tell-requires : tie.Need-tell-requires
 tell-requires c κs = search needs
 
--- src/chunks.rt:140:5
 closed-requires-4 : tie.Need-closed-requires-4
 closed-requires-4 c κs = search needs
 
--- src/chunks.rt:120:1
 returns-5 : tie.Need-returns-5
 returns-5 c = inr (c .closed4 .ensures .0)
 
