@@ -27,7 +27,7 @@ extern "C" {
 /* ---- Numbers and names ------------------------------------------------------------------------------------------- */
 
 /* The version that this header describes. samopute_version() answers that of the library. */
-#define SAMOPUTE_VERSION_MAJOR 2
+#define SAMOPUTE_VERSION_MAJOR 3
 #define SAMOPUTE_VERSION_MINOR 0
 #define SAMOPUTE_VERSION (SAMOPUTE_VERSION_MAJOR * 65536 + SAMOPUTE_VERSION_MINOR)
 
@@ -78,11 +78,14 @@ enum samopute_status {
     SAMOPUTE_UNKNOWN_PGN = 15       /* a PGN that is not built in: the PGN */
 };
 
-/* What refusal 2 of a decode counts: how many bits one of it is. Asked and available are in the same unit. */
+/*
+ * What refusal 2 of a decode counts: how many bits one of it is. Asked and available are in the same unit. Available is
+ * what is left from where the bits or bytes would stand, and less than asked.
+ */
 enum samopute_unit {
     SAMOPUTE_UNIT_NONE = 0, /* no refusal 2 */
     SAMOPUTE_UNIT_BITS = 1, /* asked: those of the field, or of a text's length or encoding byte */
-    SAMOPUTE_UNIT_BYTES = 8 /* asked: where the text or the bytes would end in the working payload */
+    SAMOPUTE_UNIT_BYTES = 8 /* asked: those of a Binary or of a text, without its length and encoding byte */
 };
 
 /* The rules that a table is held to, a to h, as refusal 8 carries them. */
@@ -262,7 +265,8 @@ uint32_t samopute_check(const uint64_t *words, size_t word_count, uint64_t answe
  * answer[0]  the cursor after the call, where it was if refused
  * answer[1], answer[2]
  *            the number read and 0 (reads); the first byte and the count (read_slice); 0 and 0 (all else); or what the
- *            refusal carries, then 0. Refusal 2 counts bits, in slice calls bytes, and asked is then the end.
+ *            refusal carries, then 0. Refusal 2 counts bits, in slice calls bytes: those asked, and those left from
+ *            the cursor on, 0 past the end, where an empty slice is refused too.
  *
  * A refused call changes no buffer. A write puts the low bits of the value and keeps every other bit.
  */

@@ -123,7 +123,7 @@ int main(void)
     if (samopute_check(mismarked, 2, answer) != SAMOPUTE_TABLE_REFUSED || answer[0] != SAMOPUTE_RULE_D || answer[1] != 0) {
         return 30;
     }
-    if (SAMOPUTE_VERSION != 131072 || samopute_version() != SAMOPUTE_VERSION) {
+    if (SAMOPUTE_VERSION != 196608 || samopute_version() != SAMOPUTE_VERSION) {
         return 13;
     }
     wrong = values();
@@ -301,10 +301,10 @@ static int unit_of(uint64_t first_width, const uint8_t *payload, size_t length, 
 }
 static int units(void)
 {
-    static const uint8_t none[1] = {0}, texts[7] = {0, 7, 1, 'A', 'B', 'C', 'D'}, short_frame[1] = {0x2A};
+    static const uint8_t none[1] = {0}, texts[10] = {0, 10, 1, 'A', 'B', 'C', 'D', 'E', 'F', 'G'}, short_frame[1] = {0x2A};
     uint8_t padding[SAMOPUTE_PADDING_LENGTH], readings[SAMOPUTE_READINGS_LENGTH(1)];
     uint64_t answer[6];
-    if (!unit_of(1, none, 1, SAMOPUTE_UNIT_BITS) || !unit_of(8, texts, 7, SAMOPUTE_UNIT_BYTES)) {
+    if (!unit_of(1, none, 1, SAMOPUTE_UNIT_BITS) || !unit_of(8, texts, 10, SAMOPUTE_UNIT_BYTES)) {
         return 24;
     }
     /* 129029 ends before its date. */

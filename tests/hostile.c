@@ -50,6 +50,9 @@ static uint64_t answered[STATUS_MAX + 1];
 static uint64_t beyond_bits;
 static uint64_t beyond_bytes;
 
+/* How often a slice call refused an empty slice past the end. */
+static uint64_t empty_slices;
+
 /* ---- What is told ------------------------------------------------------------------------------------------------ */
 
 static void put(const char *text)
@@ -526,10 +529,25 @@ static int is_number_kind(uint64_t kind)
 }
 
 /*
- * Refusal 2: of bytes where bytes are read, which end beyond all that there are; else of bits, those of the field or of a
- * text's length or encoding byte.
+ * Refusal 2 of bytes: those of the field, or of a text as its length byte says, behind that byte and the encoding byte;
+ * and those left from there on, behind all that was read.
  */
-static void check_beyond(const struct decode *c, size_t length)
+static void check_bytes_left(const struct decode *c, const uint8_t *working, size_t length, uint64_t end)
+{
+    const uint64_t *carried = c->answer + 2;
+    uint64_t field = c->words[1 + carried[0]];
+    uint64_t kind = field & 0xFF;
+    size_t before = kind == SAMOPUTE_STRING_LZ ? 1 : kind == SAMOPUTE_STRING_LAU ? 2 : 0;
+    size_t counted = kind == SAMOPUTE_STRING_LAU ? 2 : 0;
+    size_t first = length - before - (size_t)carried[2];
+    beyond_bytes++;
+    hold(before + carried[2] <= length && 8 * first >= end, "more bytes left than there are");
+    hold(carried[1] == (before > 0 ? (uint64_t)working[first] - counted : (field >> 8 & 0xFFFF) / 8),
+         "bytes counted, but not those of the field");
+}
+
+/* Refusal 2: of bytes where bytes are read; else of bits, those of the field or of a text's length or encoding byte. */
+static void check_beyond(const struct decode *c, const uint8_t *working, size_t length, uint64_t end)
 {
     const uint64_t *carried = c->answer + 2;
     uint64_t field = c->words[1 + carried[0]];
@@ -539,8 +557,8 @@ static void check_beyond(const struct decode *c, size_t length)
     int is_bytes = kind == SAMOPUTE_STRING_FIX || (kind == SAMOPUTE_BINARY && width % 8 == 0);
     hold(!is_number_kind(kind) && carried[1] > carried[2], "2 of a number, or of less than there is");
     if (c->answer[5] == SAMOPUTE_UNIT_BYTES) {
-        beyond_bytes++;
-        hold((is_text || is_bytes) && carried[2] == length, "bytes counted, but not those of the payload");
+        hold(is_text || is_bytes, "bytes counted where none are read");
+        check_bytes_left(c, working, length, end);
     } else {
         beyond_bits++;
         hold(c->answer[5] == SAMOPUTE_UNIT_BITS, "a unit that is neither bits nor bytes");
@@ -549,7 +567,7 @@ static void check_beyond(const struct decode *c, size_t length)
 }
 
 /* Refusals 2, 3, 4 and 9: of a field that can be refused so, and with what they carry. */
-static void check_refused_field(const struct decode *c, size_t length)
+static void check_refused_field(const struct decode *c, const uint8_t *working, size_t length, uint64_t end)
 {
     const uint64_t *carried = c->answer + 2;
     uint64_t kind;
@@ -557,7 +575,7 @@ static void check_refused_field(const struct decode *c, size_t length)
     kind = c->words[1 + carried[0]] & 0xFF;
     hold(c->status == 2 || c->answer[5] == 0, "a unit without 2");
     if (c->status == 2) {
-        check_beyond(c, length);
+        check_beyond(c, working, length, end);
     } else if (c->status == 3) {
         hold(kind >= SAMOPUTE_STRING_FIX && kind <= SAMOPUTE_BINARY, "3 of a number");
         hold(carried[1] % 8 != 0 && carried[2] == 0, "3 at a whole byte");
@@ -621,7 +639,7 @@ static void check_walked(const struct decode *c)
     } else if (c->status == 5) {
         check_refused_set(c);
     } else {
-        check_refused_field(c, length);
+        check_refused_field(c, working, length, end);
     }
 }
 
@@ -956,7 +974,8 @@ static void expect_slice(struct bit_call *c)
     } else if (c->cursor % 8 != 0) {
         refuse(c, 3, c->cursor, 0);
     } else if (end > c->buffer.length) {
-        refuse(c, 2, end, c->buffer.length);
+        refuse(c, 2, c->count, first < c->buffer.length ? c->buffer.length - first : 0);
+        empty_slices += c->count == 0;
     } else {
         refuse(c, 0, 0, 0);
         c->wanted[0] = c->cursor + 8 * c->count;
@@ -1355,11 +1374,12 @@ static int met_all(void)
            met_each("other calls", answered, of_others, sizeof of_others / sizeof of_others[0]);
 }
 
-/* Both units of refusal 2 must have come too. */
+/* Both units of refusal 2 must have come too, and the slice that asks for no more than is left. */
 static int met_units(void)
 {
     printf("refusal 2 of decodes: %" PRIu64 " of bits, %" PRIu64 " of bytes\n", beyond_bits, beyond_bytes);
-    return beyond_bits > 0 && beyond_bytes > 0;
+    printf("refusal 2 of empty slices past the end: %" PRIu64 "\n", empty_slices);
+    return beyond_bits > 0 && beyond_bytes > 0 && empty_slices > 0;
 }
 
 static void run(uint64_t rounds, uint64_t first)

@@ -73,7 +73,7 @@ static void print_answer(uint32_t status, const struct lent *lent)
     } else if (status == SAMOPUTE_CUT_SHORT) {
         printf("  refusal 4: the payload ends inside field %" PRIu64 "\n", lent->answer[2]);
     } else if (status == SAMOPUTE_BEYOND) {
-        printf("  refusal 2: field %" PRIu64 " asks for %" PRIu64 " %s, of %" PRIu64 "\n", lent->answer[2],
+        printf("  refusal 2: field %" PRIu64 " asks for %" PRIu64 " %s, %" PRIu64 " are left\n", lent->answer[2],
                lent->answer[3], lent->answer[5] == SAMOPUTE_UNIT_BITS ? "bits" : "bytes", lent->answer[4]);
     } else {
         printf("  refusal %" PRIu32 ": %" PRIu64 " %" PRIu64 " %" PRIu64 "\n", status, lent->answer[2],

@@ -158,10 +158,10 @@ pub struct Version {
     pub minor: u32,
 }
 
-/// Asks the library for its version. This crate is for 2.0.
+/// Asks the library for its version. This crate is for 3.0.
 ///
 /// ```
-/// assert_eq!(samopute::version(), samopute::Version { major: 2, minor: 0 });
+/// assert_eq!(samopute::version(), samopute::Version { major: 3, minor: 0 });
 /// ```
 pub fn version() -> Version {
     let number = sys::version();

@@ -30,9 +30,9 @@ pub enum Refusal {
     BeyondBytes {
         /// The field, if it was a decode.
         field: Option<u64>,
-        /// Where the bytes would end, in bytes from the start of the buffer.
+        /// The bytes that were asked for: of a text, those behind its length and encoding byte.
         asked: u64,
-        /// The bytes of the buffer.
+        /// The whole bytes left from where they would begin, fewer than asked; 0 and 0 for an empty slice past the end.
         available: u64,
     },
     /// 3: a byte slice at a cursor that is no multiple of 8.
@@ -335,7 +335,7 @@ impl fmt::Display for Refusal {
             } => {
                 write!(
                     f,
-                    "beyond the buffer: bytes that would end at {asked}, of {available} bytes{}",
+                    "beyond the buffer: {asked} bytes asked, {available} available{}",
                     InField(*field)
                 )
             }

@@ -65,8 +65,8 @@ fn slices_are_read_from_whole_bytes_on() {
         reader.read_slice(0),
         Err(Refusal::BeyondBytes {
             field: None,
-            asked: 4,
-            available: 3
+            asked: 0,
+            available: 0
         })
     );
     reader.seek(9);
@@ -83,9 +83,10 @@ fn slices_are_read_from_whole_bytes_on() {
         Err(Refusal::BeyondBytes {
             field: None,
             asked: u64::MAX,
-            available: 3
+            available: 2
         })
     );
+    assert_eq!(reader.read_slice(2), Ok(&[2, 3][..]));
     reader.seek(usize::MAX);
     assert_eq!(reader.bits_remaining(), 0);
     assert_eq!(
@@ -144,6 +145,24 @@ fn a_refused_write_changes_nothing() {
             field: None,
             asked: 3,
             available: 2
+        })
+    );
+    writer.seek(8);
+    assert_eq!(
+        writer.write_slice(&[0; 3]),
+        Err(Refusal::BeyondBytes {
+            field: None,
+            asked: 3,
+            available: 1
+        })
+    );
+    writer.seek(24);
+    assert_eq!(
+        writer.write_slice(&[]),
+        Err(Refusal::BeyondBytes {
+            field: None,
+            asked: 0,
+            available: 0
         })
     );
     writer.seek(1);
@@ -313,7 +332,7 @@ fn refusals_as_text() {
             asked: 16,
             available: 8
         }),
-        "refusal 2: beyond the buffer: bytes that would end at 16, of 8 bytes"
+        "refusal 2: beyond the buffer: 16 bytes asked, 8 available"
     );
     assert_eq!(
         told(Refusal::OutOfRange { field: None }),

@@ -417,7 +417,7 @@ fn refusal_2_tells_bits_from_bytes() {
         assert_eq!(run.end(), Err(wanted));
     };
     let (field, asked, available) = (Some(1), 8, 7);
-    // The length byte, of which 7 bits are there; a text that would end at byte 8, of 7.
+    // The length byte, of which 7 bits are there; a text of 8 bytes, of which 7 are.
     by(
         1,
         &[0],
@@ -429,7 +429,7 @@ fn refusal_2_tells_bits_from_bytes() {
     );
     by(
         8,
-        &[0, 7, 1, b'A', b'B', b'C', b'D'],
+        b"\0\x0A\x01ABCDEFG",
         Refusal::BeyondBytes {
             field,
             asked,

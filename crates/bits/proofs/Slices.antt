@@ -1,5 +1,5 @@
--- The laws of slice calls: a slice that was read is not cut; a written one reads as its source, in bits and whole, and apart from it all stays.
--- Assumes nothing.
+-- The laws of slice calls: a slice that was read is not cut; a written one reads as its source, in bits and whole, and apart from it all stays; what refusal 2
+-- tells, `Short`. Assumes nothing.
 use mathlib.Core.Path.{_≡_, refl, sym, ap, ap₂, _∙_, subst}
 use mathlib.Core.Logic.{_⊎_, inl, inr, ⊎-elim}
 use mathlib.Core.List.{List, _++_}
@@ -8,14 +8,17 @@ use native.Mathlib.Omega.{arith}
 use lib.ListN.{length, getD, take, drop, List·getD-append, length-drop}
 use lib.Seq.{ext-getD, paste, length-paste, length-paste-head, getD-take, getD-drop, length-take-le, getD-append-add}
 use Rattle.bits.specs.Bits.{bit, bitsAt}
+use Rattle.bits.specs.declared.BitRefusal.the-variants.{OutOfBytes}
+use Rattle.bits.specs.declared.ByteCount.{ByteCount}
 use Rattle.bits.specs.declared.Cursor.{Cursor}
+use Rattle.bits.specs.declared.Moved.the-variants as moved
 use Rattle.bits.specs.declared.Part.{Part}
 use Rattle.bits.specs.declared.Room.{Room}
 use Rattle.bits.specs.declared.Room.the-variants as room
 use Rattle.bits.specs.declared.ReadSlice.the-variants as slice
-use Rattle.bits.specs.Calls.{bytes, place, movedBy, sliceRoomOf, readSliceIn, readSliceOf, partOf, slicedIn, slicedOf}
+use Rattle.bits.specs.Calls.{bytes, place, movedBy, sliceRoomOf, readSliceIn, readSliceOf, partOf, advanceIn, writeSliceOf, slicedIn, slicedOf}
 use Rattle.bits.proofs.Sums.{sum-ext}
-use Rattle.bits.proofs.Rooms.{Whole, whole, slice-fits}
+use Rattle.bits.proofs.Rooms.{Whole, whole, slice-fits, Short, short}
 use Rattle.bits.proofs.Laws.{byte-read}
 
 -- ## Reading
@@ -120,3 +123,21 @@ module _ (s src : List ℕ) (c : Cursor) (f : Whole (length s) (place c) (length
 
   pub slice-back : partOf (slicedOf s c src) (record { start = bytes (place c / 8); len = bytes (length src) }) ≡ src
   slice-back = ap (λ (l : List ℕ). take (length src) (drop (place c / 8) l)) accepted ∙ part-back s src (place c / 8) (f .inside)
+
+-- ## Refusal 2
+
+-- what `read_slice` says of n bytes from a cursor on ..
+pub read-short : (len : ℕ) (c : Cursor) (n : ℕ) (asked available : ByteCount) → readSliceOf len c n ≡ slice.Refused (OutOfBytes asked available) → Short len (place c) n asked available
+read-short len c n asked available h = go (sliceRoomOf len (place c) n) refl h
+  where
+    go : (r : Room) → sliceRoomOf len (place c) n ≡ r → readSliceIn r c n ≡ slice.Refused (OutOfBytes asked available) → Short len (place c) n asked available
+    go room.Fits q e = let z : _≡_ {A = ℕ} 0 1 = cc in absurd (omega arith)
+    go (room.Refused x) q e = let z : x ≡ OutOfBytes asked available = cc in short len (place c) n asked available (q ∙ ap room.Refused z)
+
+-- .. `write_slice` says as well
+pub write-short : (len : ℕ) (c : Cursor) (n : ℕ) (asked available : ByteCount) → writeSliceOf len c n ≡ moved.Refused (OutOfBytes asked available) → Short len (place c) n asked available
+write-short len c n asked available h = go (sliceRoomOf len (place c) n) refl h
+  where
+    go : (r : Room) → sliceRoomOf len (place c) n ≡ r → advanceIn r c (n * 8) ≡ moved.Refused (OutOfBytes asked available) → Short len (place c) n asked available
+    go room.Fits q e = let z : _≡_ {A = ℕ} 0 1 = cc in absurd (omega arith)
+    go (room.Refused x) q e = let z : x ≡ OutOfBytes asked available = cc in short len (place c) n asked available (q ∙ ap room.Refused z)

@@ -71,9 +71,9 @@ roomOf len at n max =
     (refuse (ltb (len * 8) (at + n)) (OutOfBits (bits n) (bits (len * 8 - at)))
     room.Fits)))
 
--- what refusal 2 carries in a slice call: "it counts bytes, and asked is the end, cursor/8 + length"
+-- what refusal 2 carries in a slice call, where "it counts bytes": document 02, §2, "the length asked and the whole bytes left from the cursor, 0 past the end"
 abbrev pub outOfBytes : ℕ → ℕ → ℕ → BitRefusal
-outOfBytes len at n = OutOfBytes (bytes (saturated (at / 8 + n))) (bytes len)
+outOfBytes len at n = OutOfBytes (bytes n) (bytes ((len * 8 - at) / 8))
 
 -- a call of n bytes at bit `at` of a buffer of len bytes. Order: 6, 3, 2
 abbrev pub sliceRoomOf : ℕ → ℕ → ℕ → Room

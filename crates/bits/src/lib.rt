@@ -56,7 +56,7 @@ pub enum BitRefusal {
         asked: BitPos,
         available: BitPos,
     },
-    // 2 of a slice call: it counts bytes.
+    // 2 of a slice call: it counts bytes, those asked and the whole ones left from the cursor on.
     OutOfBytes {
         asked: ByteCount,
         available: ByteCount,

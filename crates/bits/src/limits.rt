@@ -88,10 +88,12 @@ pub(crate) fn slice_room_for(len: usize, at: usize, n: usize) -> Room
         return Room::Refused(BitRefusal::NonAlignedBit { cursor: BitPos(at) });
     }
     let end = sum(at / 8, n);
+    let left = less(len * 8, at) / 8;
+    // The end decides, not the bytes left: past the end an empty slice asks for no more than these, and is refused.
     if len < end {
         return Room::Refused(BitRefusal::OutOfBytes {
-            asked: ByteCount(end),
-            available: ByteCount(len),
+            asked: ByteCount(n),
+            available: ByteCount(left),
         });
     }
     Room::Fits

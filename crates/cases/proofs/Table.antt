@@ -62,8 +62,8 @@ nine-bits = refl
 empty-at-the-end : readSliceOf 2 (cursorAt 16) 0 ≡ slice.Got (record { start = bytes 2; len = bytes 0 }) (cursorAt 16)
 empty-at-the-end = refl
 
--- .. at 24: asked 3, available 2"
-empty-past-the-end : readSliceOf 2 (cursorAt 24) 0 ≡ slice.Refused (OutOfBytes (bytes 3) (bytes 2))
+-- .. at 24:", since document 02, §2, "asked 0, available 0"
+empty-past-the-end : readSliceOf 2 (cursorAt 24) 0 ≡ slice.Refused (OutOfBytes (bytes 0) (bytes 0))
 empty-past-the-end = refl
 
 -- "Write 3 bits of 13 at 6 in 00 00: 40 01": the buffer, and the answer

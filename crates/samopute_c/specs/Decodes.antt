@@ -47,4 +47,4 @@ pgnCells pgn Unknown = 0 ∷ 0 ∷ pgn ∷ 0 ∷ 0 ∷ 0 ∷ []
 
 -- the version of these calls and layouts: 65,536 times the major number, and the minor one
 abbrev pub versionOf : ℕ
-versionOf = 131072
+versionOf = 196608

@@ -110,5 +110,5 @@ pub extern "C" fn samopute_decode_pgn(
 pub extern "C" fn samopute_version() -> u32
     ensures { λ r. ⌜ r ≡ versionOf ⌝ }
 {
-    0x2_0000
+    0x3_0000
 }

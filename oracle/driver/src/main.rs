@@ -1,5 +1,6 @@
 //! Runs the published Rust beside the library under test: see ../../README.md.
 mod bench;
+mod bytes_left;
 mod carried;
 mod case;
 mod cases;

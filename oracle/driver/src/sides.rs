@@ -1,4 +1,5 @@
 //! The same case asked of the three sides: the model, the library under test, and the Rust.
+use crate::bytes_left;
 use crate::case::{Answer, Call, Case, Raw, Size};
 use crate::samopute;
 use korri_n2k::error::{BitReaderError, BitWriterError};
@@ -69,8 +70,9 @@ pub fn ours(case: &Case, buffer: &mut [u8]) -> Raw {
     Raw { number, values }
 }
 
-/// The answer of the Rust, unchanged, where it has one: its widths are `u8`, its writer cannot be
-/// past the end, and longer buffers are outside document 01's domain.
+/// The answer of the unchanged Rust, where it has one: its widths are `u8`, its writer cannot be
+/// past the end, and longer buffers are outside document 01's domain. What its refusal 2 of a slice
+/// carries is turned into what ours carries.
 pub fn rust(case: &Case, buffer: &mut [u8]) -> Option<Answer> {
     if buffer.len() > model::BUFFER_MAX {
         return None;
@@ -94,7 +96,7 @@ fn rust_read(case: &Case, buffer: &[u8]) -> Option<Answer> {
     };
     Some(Answer {
         cursor: reader.bit_cursor(),
-        outcome: outcome.map_err(|error| read_refusal(case.call, error)),
+        outcome: outcome.map_err(|error| read_refusal(case, error)),
     })
 }
 
@@ -134,7 +136,7 @@ fn rust_write(case: &Case, buffer: &mut [u8]) -> Option<Answer> {
         cursor: writer.bit_cursor(),
         outcome: outcome
             .map(|()| [0, 0])
-            .map_err(|error| write_refusal(case.call, error)),
+            .map_err(|error| write_refusal(case, error)),
     })
 }
 
@@ -163,32 +165,44 @@ fn writer_at(buffer: &mut [u8], cursor: usize) -> Option<BitWriter<'_>> {
     Some(writer)
 }
 
-fn read_refusal(call: Call, error: BitReaderError) -> Refusal {
+fn read_refusal(case: &Case, error: BitReaderError) -> Refusal {
     match error {
         BitReaderError::TooLongForType { max, asked } => Refusal::Width {
             max: max.into(),
             width: asked.into(),
         },
-        BitReaderError::OutOfBounds { asked, available } => beyond(call, asked, available),
+        BitReaderError::OutOfBounds { asked, available } => beyond(case, asked, available),
         BitReaderError::NonAlignedBit { cursor } => Refusal::Unaligned { cursor },
     }
 }
 
 /// The Rust counts in the same units as document 01, but does not tell them.
-fn beyond(call: Call, asked: usize, available: usize) -> Refusal {
-    match call {
-        Call::ReadSlice | Call::WriteSlice => Refusal::BeyondBytes { asked, available },
+fn beyond(case: &Case, asked: usize, available: usize) -> Refusal {
+    match case.call {
+        Call::ReadSlice | Call::WriteSlice => beyond_bytes(case, asked, available),
         _ => Refusal::BeyondBits { asked, available },
     }
 }
 
-fn write_refusal(call: Call, error: BitWriterError) -> Refusal {
+/// An end that no machine word holds is the largest there: of such a one the length is the case's.
+fn beyond_bytes(case: &Case, end: usize, size: usize) -> Refusal {
+    let is_cut = (case.cursor / 8).checked_add(case.count).is_none();
+    let (length, available) = bytes_left::from_cursor(case.cursor, end, size);
+    let asked = if is_cut && end == usize::MAX {
+        case.count
+    } else {
+        length
+    };
+    Refusal::BeyondBytes { asked, available }
+}
+
+fn write_refusal(case: &Case, error: BitWriterError) -> Refusal {
     match error {
         BitWriterError::TooLongForType { max, asked } => Refusal::Width {
             max: max.into(),
             width: asked.into(),
         },
-        BitWriterError::OutOfBounds { asked, available } => beyond(call, asked, available),
+        BitWriterError::OutOfBounds { asked, available } => beyond(case, asked, available),
         BitWriterError::NonAlignedBit { cursor } => Refusal::Unaligned { cursor },
     }
 }

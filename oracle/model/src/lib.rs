@@ -1,4 +1,4 @@
-//! Document 01's "Bit calls", a bit at a time, over every input: any width, any cursor, any length.
+//! Document 01's "Bit calls", with document 02, §2, a bit at a time, over every input: any width, any cursor, any length.
 //! It answers where the Rust cannot. Sums are made in `u128`, where none can overflow. Numbers, tables
 //! and the reading and writing of payloads are in modules of their own.
 pub mod numbers;
@@ -24,7 +24,7 @@ pub enum Refusal {
         asked: usize,
         available: usize,
     },
-    /// 2 of a slice call, which counts bytes.
+    /// 2 of a slice call, which counts bytes: the length asked, and the whole bytes left from the cursor.
     BeyondBytes {
         asked: usize,
         available: usize,
@@ -150,8 +150,8 @@ fn slice_end(length: usize, cursor: usize, count: usize) -> Result<usize, Refusa
     let end = (cursor / 8) as u128 + count as u128;
     if end > length as u128 {
         return Err(Refusal::BeyondBytes {
-            asked: end.min(usize::MAX as u128) as usize,
-            available: length,
+            asked: count,
+            available: bits_remaining(length, cursor) / 8,
         });
     }
     Ok(end as usize)

@@ -24,10 +24,21 @@ const OF_KINDS: [(Kind, &[&str]); 17] = [
     (Kind::Time, &OTHER_NUMBERS),
     (Kind::Reserved, &["F 2"]),
     (Kind::Spare, &["F 2"]),
-    (Kind::Binary, &["A", "N", "bytes", "F 2", "F 3", "F 9"]),
+    (
+        Kind::Binary,
+        &["A", "N", "bytes", "F 2", "F 2 of bytes", "F 3", "F 9"],
+    ),
     (
         Kind::StringFix,
-        &["A", "N", "stopped early", "no bytes", "F 2", "F 3", "F 9"],
+        &[
+            "A",
+            "N",
+            "stopped early",
+            "no bytes",
+            "F 2 of bytes",
+            "F 3",
+            "F 9",
+        ],
     ),
     (
         Kind::StringLz,
@@ -39,6 +50,7 @@ const OF_KINDS: [(Kind, &[&str]); 17] = [
             "empty and unaligned",
             "unaligned zero",
             "F 2",
+            "F 2 of bytes",
             "F 3",
             "F 4",
             "F 9",
@@ -53,6 +65,7 @@ const OF_KINDS: [(Kind, &[&str]); 17] = [
             "16 bits",
             "empty and unaligned",
             "F 2",
+            "F 2 of bytes",
             "F 3",
             "F 4",
             "F 9",
@@ -136,6 +149,9 @@ impl Coverage {
     fn add_fault(&mut self, answers: &Answers, fault: Fault) {
         let kind = |field: usize| Some(answers.asked.table.fields[field].kind);
         match fault {
+            Fault::Bits { field, refusal } if refusal.unit() == 8 => {
+                self.met(kind(field), "F 2 of bytes");
+            }
             Fault::Bits { field, refusal } => {
                 let numbers = ["F 1", "F 2", "F 3"];
                 self.met(kind(field), numbers[refusal.number() as usize - 1]);

@@ -30,8 +30,9 @@ pub fn answered(line: &[u8], side: Side) -> String {
     let answers = Answers::new(&case, &asked, None);
     let told = match side {
         Side::Model => return answers.model.text(),
-        Side::Standin => answers.standin,
-        Side::Rust => answers.rust,
+        // As they say it themselves.
+        Side::Standin => answers.standin.and_then(|_| asked.standin(&case)),
+        Side::Rust => asked.rust(&case),
     };
     told.map_or("no answer\n".to_string(), |told| told.text())
 }

@@ -4,7 +4,7 @@ use super::answer::{self, Answer};
 use super::asked::Asked;
 use super::case::Case;
 use super::differences::{Excused, Reason, parting, same_but};
-use super::told::{Told, told};
+use super::told::{Told, short_slice, told};
 use crate::pair::Pair;
 use crate::payload::held::{Answered, Held};
 
@@ -13,7 +13,8 @@ pub struct Answers<'a> {
     pub case: &'a Case,
     pub asked: &'a Asked,
     pub model: Answer,
-    /// The stand-ins' answer, if they can be asked: they have no refusals 7 and 8.
+    /// The stand-ins' answer, if they can be asked: they have no refusals 7 and 8. In theirs and in the
+    /// Rust's, refusal 2 of a slice carries what ours carries.
     pub standin: Option<Told>,
     /// The Rust's answer, if it can be asked, and what of it is not compared.
     pub rust: Option<Told>,
@@ -63,11 +64,13 @@ impl<'a> Answers<'a> {
         let (model, stopped) = answer::model(&asked.table, case);
         let excused = Excused::new(asked, case, &model, stopped);
         let standin_speaks = excused.whole.is_none();
+        let standin = standin_speaks.then(|| asked.standin(case)).flatten();
+        let slice = short_slice(&asked.table, model.outcome, stopped);
         let mut answers = Answers {
             case,
             asked,
-            standin: standin_speaks.then(|| asked.standin(case)).flatten(),
-            rust: asked.rust(case),
+            standin: standin.map(|told| told.with_bytes_left(slice)),
+            rust: asked.rust(case).map(|told| told.with_bytes_left(slice)),
             excused,
             ours: ours.map(|given| Ours::new(given, &model)),
             model,

@@ -4,9 +4,12 @@
 use super::answer::Answer;
 use super::case::Case;
 use super::refusal;
+use crate::bytes_left;
 use crate::case::hex;
-use model::numbers::Value;
+use model::Refusal;
+use model::numbers::{Kind, Value};
 use model::reading::{Content, Fault, Reading};
+use model::tables::Table;
 use std::fmt::Write;
 
 #[derive(Clone, Debug, PartialEq, Eq)]
@@ -110,12 +113,40 @@ fn refused(fault: Fault, whole: bool) -> Refused {
     }
 }
 
+/// Where the bytes of a field begin that the payload has not, if that is why it does not decode: those of
+/// a text stand behind its length byte, and its encoding byte. `stopped` is where the field starts.
+pub fn short_slice(table: &Table, outcome: Result<usize, Fault>, stopped: usize) -> Option<usize> {
+    let Err(Fault::Bits { field, refusal }) = outcome else {
+        return None;
+    };
+    let Refusal::BeyondBytes { .. } = refusal else {
+        return None;
+    };
+    Some(match table.fields[field].kind {
+        Kind::StringLz => stopped + 8,
+        Kind::StringLau => stopped + 16,
+        _ => stopped,
+    })
+}
+
 /// A number, or what stands for one that is not told.
 fn or(number: Option<usize>, none: &str) -> String {
     number.map_or(none.to_string(), |number| number.to_string())
 }
 
 impl Told {
+    /// The same, where refusal 2 of the slice at this bit, which the Rust gives with the end and the size,
+    /// carries what ours carries.
+    pub fn with_bytes_left(mut self, slice: Option<usize>) -> Told {
+        let refused = self.refusal.as_mut().filter(|refused| refused.number == 2);
+        if let (Some(cursor), Some(Refused { carried, .. })) = (slice, refused) {
+            let (end, size) = (carried[0] as usize, carried[1] as usize);
+            let (asked, available) = bytes_left::from_cursor(cursor, end, size);
+            *carried = vec![asked as u64, available as u64];
+        }
+        self
+    }
+
     /// As the program prints it, with `?` for what is not told and bytes in place of places.
     pub fn text(&self) -> String {
         let mut text = String::new();

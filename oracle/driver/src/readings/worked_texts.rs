@@ -39,7 +39,7 @@ fn fixed() -> Vec<Worked> {
         reads(
             in_a_set,
             "01 01 41*32",
-            &[byte, "R 1 0 8 8 N - Bytes 0:0 -", "F 2 2 35 34", "D -"],
+            &[byte, "R 1 0 8 8 N - Bytes 0:0 -", "F 2 2 33 32", "D -"],
         ),
         // Of no bytes: aligned it is a reading of no bits, unaligned it is refused all the same.
         of(
@@ -59,7 +59,7 @@ fn fixed() -> Vec<Worked> {
             &[nibble, "F 3 1 4", "D -"],
         ),
         of(&[number(4), fix(1)], "0141", &[nibble, "F 3 1 4", "D -"]),
-        of(&[number(8), fix(2)], "0141", &[byte, "F 2 1 3 2", "D -"]),
+        of(&[number(8), fix(2)], "0141", &[byte, "F 2 1 2 1", "D -"]),
     ]
 }
 
@@ -100,8 +100,8 @@ fn ended() -> Vec<Worked> {
         none(8, "0001"),
         none(16, "000000"),
         one("", &["F 2 0 8 0", "D -"]),
-        one("0541", &["F 2 0 6 2", "D -"]),
-        one("DF", &["F 2 0 224 1", "D -"]),
+        one("0541", &["F 2 0 5 1", "D -"]),
+        one("DF", &["F 2 0 223 0", "D -"]),
         one("E0", &["F 4 0", "D -"]),
         one("E6", &["F 4 0", "D -"]),
         one("E7", &["F 4 0", "D -"]),
@@ -182,9 +182,9 @@ fn encoded() -> Vec<Worked> {
         one("", &["F 2 0 8 0", "D -"]),
         one("05", &["F 2 0 8 0", "D -"]),
         one("02", &["F 2 0 8 0", "D -"]),
-        one("0501", &["F 2 0 5 2", "D -"]),
-        one("050141", &["F 2 0 5 3", "D -"]),
-        one("DF01", &["F 2 0 223 2", "D -"]),
+        one("0501", &["F 2 0 3 0", "D -"]),
+        one("050141", &["F 2 0 3 1", "D -"]),
+        one("DF01", &["F 2 0 221 0", "D -"]),
         one(
             "DF01 41*221",
             &["R 0 - 0 1784 A - Bytes 2:221 01", "E 1784 1", "D -"],
@@ -250,7 +250,7 @@ fn binary() -> Vec<Worked> {
         of(
             &[number(8), bits(16)],
             "0141",
-            &["R 0 - 0 8 A 1 U8 1", "F 2 1 3 2", "D -"],
+            &["R 0 - 0 8 A 1 U8 1", "F 2 1 2 1", "D -"],
         ),
     ]
 }

@@ -14,15 +14,15 @@ use model::numbers::Kind;
 use model::reading::PADDING;
 use model::tables::Table;
 
-/// Version 2.0.
-const VERSION: u32 = 2 << 16;
+/// Version 3.0.
+const VERSION: u32 = 3 << 16;
 
 const NONE: u64 = u64::MAX;
 
 pub fn run(report: &mut Report) {
     let version = samopute::version();
     let outcome = match version {
-        VERSION => Ok("2.0".to_string()),
+        VERSION => Ok("3.0".to_string()),
         _ => Err(format!("{version}, where {VERSION} is wanted")),
     };
     report.line("the version of the interface", outcome);
@@ -207,7 +207,7 @@ fn exact() -> Vec<Exact> {
         },
         Exact {
             table: table(&[field(Kind::Number, 8), bare(Kind::StringLau)], &[]),
-            payload: &[0, 7, 1, 0x41, 0x42, 0x43, 0x44],
+            payload: &[0, 10, 1, 0x41, 0x42, 0x43, 0x44, 0x45, 0x46, 0x47],
             length: COUNT + RECORD,
             status: 2,
             answer: [1, 0, 1, 8, 7, 8],
