@@ -14,5 +14,7 @@ pub mod Cut
 pub mod Numeric
 -- by an accepted table a bit call says 2 or 3 against a field, never 1 or 6
 pub mod Given
+-- refusal 2 of a field that starts in the payload asks for more than is left
+pub mod Asked
 -- every contract leaves one answer and one content of each lent buffer
 pub mod OneAnswer

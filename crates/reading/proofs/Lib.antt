@@ -30,7 +30,11 @@ pub mod Received
 pub mod Demand3
 -- demand 3 for the calls `for_each_field` and `next_field`; 1,785 readings are room enough
 pub mod Answered
+-- what holds of the refusals of fields holds of that of a decode, but for those given before its walk
+pub mod Stopped
 -- a decode gives no refusal but 2, 3, 4, 5, 7, 8 and 9
 pub mod Given
+-- in refusal 2 of a decode asked is above available
+pub mod Asked
 -- every contract leaves one answer and one content of each lent buffer
 pub mod OneAnswer
