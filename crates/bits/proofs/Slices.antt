@@ -8,6 +8,7 @@ use native.Mathlib.Omega.{arith}
 use lib.ListN.{length, getD, take, drop, List·getD-append, length-drop}
 use lib.Seq.{ext-getD, paste, length-paste, length-paste-head, getD-take, getD-drop, length-take-le, getD-append-add}
 use Rattle.bits.specs.Bits.{bit, bitsAt}
+use Rattle.bits.specs.declared.BitRefusal.{BitRefusal}
 use Rattle.bits.specs.declared.BitRefusal.the-variants.{OutOfBytes}
 use Rattle.bits.specs.declared.ByteCount.{ByteCount}
 use Rattle.bits.specs.declared.Cursor.{Cursor}
@@ -126,18 +127,18 @@ module _ (s src : List ℕ) (c : Cursor) (f : Whole (length s) (place c) (length
 
 -- ## Refusal 2
 
+read-refused : (r : Room) (c : Cursor) (n : ℕ) (e : BitRefusal) → readSliceIn r c n ≡ slice.Refused e → r ≡ room.Refused e
+read-refused room.Fits c n e h = let z : _≡_ {A = ℕ} 0 1 = cc in absurd (omega arith)
+read-refused (room.Refused x) c n e h = let z : x ≡ e = cc in ap room.Refused z
+
+write-refused : (r : Room) (c : Cursor) (n : ℕ) (e : BitRefusal) → advanceIn r c n ≡ moved.Refused e → r ≡ room.Refused e
+write-refused room.Fits c n e h = let z : _≡_ {A = ℕ} 0 1 = cc in absurd (omega arith)
+write-refused (room.Refused x) c n e h = let z : x ≡ e = cc in ap room.Refused z
+
 -- what `read_slice` says of n bytes from a cursor on ..
 pub read-short : (len : ℕ) (c : Cursor) (n : ℕ) (asked available : ByteCount) → readSliceOf len c n ≡ slice.Refused (OutOfBytes asked available) → Short len (place c) n asked available
-read-short len c n asked available h = go (sliceRoomOf len (place c) n) refl h
-  where
-    go : (r : Room) → sliceRoomOf len (place c) n ≡ r → readSliceIn r c n ≡ slice.Refused (OutOfBytes asked available) → Short len (place c) n asked available
-    go room.Fits q e = let z : _≡_ {A = ℕ} 0 1 = cc in absurd (omega arith)
-    go (room.Refused x) q e = let z : x ≡ OutOfBytes asked available = cc in short len (place c) n asked available (q ∙ ap room.Refused z)
+read-short len c n asked available h = short len (place c) n asked available (read-refused (sliceRoomOf len (place c) n) c n _ h)
 
 -- .. `write_slice` says as well
 pub write-short : (len : ℕ) (c : Cursor) (n : ℕ) (asked available : ByteCount) → writeSliceOf len c n ≡ moved.Refused (OutOfBytes asked available) → Short len (place c) n asked available
-write-short len c n asked available h = go (sliceRoomOf len (place c) n) refl h
-  where
-    go : (r : Room) → sliceRoomOf len (place c) n ≡ r → advanceIn r c (n * 8) ≡ moved.Refused (OutOfBytes asked available) → Short len (place c) n asked available
-    go room.Fits q e = let z : _≡_ {A = ℕ} 0 1 = cc in absurd (omega arith)
-    go (room.Refused x) q e = let z : x ≡ OutOfBytes asked available = cc in short len (place c) n asked available (q ∙ ap room.Refused z)
+write-short len c n asked available h = short len (place c) n asked available (write-refused (sliceRoomOf len (place c) n) c (n * 8) _ h)

@@ -6,7 +6,6 @@ use Prim.Native.Nat.{ℕ, _+_, _-_, _*_, _/_, _%_, _≤_, _<_}
 use native.Mathlib.Omega.{arith}
 use lib.Dec.{eqb, ltb}
 use borrow.Author.Tests.{le-ltb}
-use Rattle.bits.specs.Bits.{pick}
 use Rattle.bits.specs.Calls.{bits, refuse, roomOf, outOfBytes, widthMax}
 use Rattle.bits.specs.declared.BitPos.{BitPos}
 use Rattle.bits.specs.declared.ByteCount.{ByteCount}
@@ -16,15 +15,15 @@ use Rattle.bits.specs.declared.Room.the-variants as room
 use Rattle.tables.specs.Table.{Table}
 use Rattle.tables.specs.Check.{checkOf, payloadMax}
 use Rattle.tables.specs.declared.Checked.the-variants.{Accepted}
-use Rattle.fields.specs.declared.Shape.{Shape}
-use Rattle.fields.specs.declared.Shape.the-variants.{Number, Gap, Fixed, Whole, Lau, Lz}
+use Rattle.fields.specs.declared.DecodeRefusal.the-variants.{BitReaderError, InvalidDataLength, RepetitionsExceedCapacity, WrongLength, TableRefused, NoRoom}
 use Rattle.fields.specs.declared.Taken.{Taken}
 use Rattle.fields.specs.declared.Taken.the-variants.{Took, Refused}
 use Rattle.fields.specs.Payload.{Payload}
 use Rattle.fields.specs.Refusals.{numberOf, givenInWalk}
 use Rattle.fields.specs.Shapes.{shapeOf}
-use Rattle.fields.specs.Taken.{ifRoom, shortOf, roomAt, bytesRoom, textRoom, fixedBytes, lauTaken, lzTaken, takenBy, takenOf}
+use Rattle.fields.specs.Taken.{ifRoom, roomAt, bytesRoom, takenOf}
 use Rattle.fields.proofs.Cut.{inBits, room-only, cut-short}
+use Rattle.fields.proofs.Against.{Meets, taken-meets}
 
 -- ## Bit calls
 
@@ -58,13 +57,6 @@ module _ (p : Payload) (small : p .size ≤ payloadMax) (at : ℕ) where
       go false true = beyond-bytes
       go false false = fits
 
-  text-fair : (n : ℕ) → Fair (textRoom p at n)
-  text-fair n = go (eqb n 0)
-    where
-      go : (b : Bool) → Fair (pick b room.Fits (bytesRoom p at n))
-      go true = fits
-      go false = bytes-fair n
-
 -- ## Fields
 
 -- what is taken, or a refusal that the walk of a decode gives
@@ -72,44 +64,23 @@ abbrev pub Given : Taken → Type 0
 Given (Took n) = Unit {0}
 Given (Refused f) = givenInWalk (numberOf f) ≡ true
 
-if-room : {r : Room} (i : ℕ) (later : Taken) → Fair r → Given later → Given (ifRoom r i later)
-if-room i later fits h = h
-if-room i later beyond-bits h = refl
-if-room i later beyond-bytes h = refl
-if-room i later unaligned h = refl
+fair-given : {r : Room} (i : ℕ) → Fair r → Given (ifRoom r i (Took 0))
+fair-given i fits = tt
+fair-given i beyond-bits = refl
+fair-given i beyond-bytes = refl
+fair-given i unaligned = refl
 
-short-of : {r : Room} (strict : Bool) (i : ℕ) (later : Taken) → Fair r → Given later → Given (shortOf strict i r later)
-short-of true i later fits h = h
-short-of true i later beyond-bits h = refl
-short-of true i later beyond-bytes h = refl
-short-of true i later unaligned h = refl
-short-of false i later fits h = h
-short-of false i later beyond-bits h = refl
-short-of false i later beyond-bytes h = refl
-short-of false i later unaligned h = refl
-
-either : (b : Bool) (x y : Taken) → Given x → Given y → Given (pick b x y)
-either true x y h k = h
-either false x y h k = k
-
-module _ (p : Payload) (small : p .size ≤ payloadMax) (i at : ℕ) where
-  lau-given : (len : ℕ) → Given (lauTaken p i at len)
-  lau-given len =
-      either (ltb payloadMax len) _ _ refl
-      (either (ltb len 2) (Took 8) _ tt
-      (if-room i _ (byte-fair p small (at + 8)) (if-room i (Took (16 + 8 * (len - 2))) (text-fair p small (at + 16) (len - 2)) tt)))
-
-  lz-given : (len : ℕ) → Given (lzTaken p i at len)
-  lz-given len = either (ltb payloadMax len) _ _ refl (if-room i (Took _) (text-fair p small (at + 8) len) tt)
-
-  taken-given : (sh : Shape) (early : Bool) (w : ℕ) → (inBits sh ≡ true → Fair (roomAt p at w)) → Given (takenBy sh p i early w at)
-  taken-given (Number strict) early w f = short-of strict i (Took w) (f refl) tt
-  taken-given Gap early w f = if-room i (Took w) (f refl) tt
-  taken-given Fixed early w f = if-room i (Took (8 * fixedBytes p early at w)) (bytes-fair p small at (fixedBytes p early at w)) tt
-  taken-given Whole early w f = if-room i (Took (8 * (w / 8))) (bytes-fair p small at (w / 8)) tt
-  taken-given Lau early w f = if-room i _ (byte-fair p small at) (lau-given (p .bits at 8))
-  taken-given Lz early w f = if-room i _ (byte-fair p small at) (lz-given (p .bits at 8))
+given-by : (o : Taken) → Meets Fair o → Given o
+given-by (Took n) h = tt
+given-by (Refused (BitReaderError i e)) h = fair-given i h
+given-by (Refused (InvalidDataLength i)) h = refl
+given-by (Refused (RepetitionsExceedCapacity set count maximum)) h = absurd h
+given-by (Refused (WrongLength n)) h = absurd h
+given-by (Refused (TableRefused rule index)) h = absurd h
+given-by (Refused (NoRoom i)) h = absurd h
 
 pub field-given : (t : Table) → checkOf t ≡ Accepted → (i : ℕ) → i < t .count → (p : Payload) → p .size ≤ payloadMax → (early : Bool) (at : ℕ) → Given (takenOf p (t .field i) i early at)
 field-given t ok i l p small early at =
-    taken-given p small i at (shapeOf (t .field i)) early (t .field i .width) (λ s. bits-fair t ok i l s (p .size) small at)
+    given-by (takenOf p (t .field i) i early at)
+    (taken-meets Fair p (λ (place : ℕ). Unit {0}) fits (byte-fair p small) (λ place next e h. tt) (λ place n w. bytes-fair p small place n)
+    i at tt (shapeOf (t .field i)) early (t .field i .width) (λ s. bits-fair t ok i l s (p .size) small at))

@@ -12,6 +12,8 @@ pub mod Filled
 pub mod Cut
 -- by an accepted table a field that is a number on the wire holds one, of 1 to 64 bits
 pub mod Numeric
+-- what holds of the answers of the bit calls holds of a field's refusal
+pub mod Against
 -- by an accepted table a bit call says 2 or 3 against a field, never 1 or 6
 pub mod Given
 -- refusal 2 of a field that starts in the payload asks for more than is left

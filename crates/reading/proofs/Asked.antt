@@ -6,12 +6,14 @@ use mathlib.Core.Logic.{⊎-elim}
 use Prim.Native.Nat.{ℕ}
 use lib.ListN.{length}
 use Rattle.bits.specs.declared.BitRefusal.the-variants.{BufferTooLong, TooLongForType, NonAlignedBit, OutOfBits, OutOfBytes}
+use Rattle.bits.proofs.Rooms.{Above}
 use Rattle.tables.specs.Table.{Table}
 use Rattle.fields.specs.declared.DecodeRefusal.{DecodeRefusal}
 use Rattle.fields.specs.declared.DecodeRefusal.the-variants.{BitReaderError, InvalidDataLength, RepetitionsExceedCapacity, WrongLength, TableRefused, NoRoom}
 use Rattle.fields.specs.Payload.{payloadOf}
 use Rattle.fields.specs.Refusals.{numberOf, touchesNothing}
-use Rattle.fields.proofs.Asked.{Asks, Asked, field-asked}
+use Rattle.fields.proofs.Against.{Meets}
+use Rattle.fields.proofs.Asked.{Asks, asks-against, field-asks}
 use Rattle.reading.specs.declared.Decoded.the-variants as decoded
 use Rattle.reading.specs.Filling.{workingOf}
 use Rattle.reading.specs.Decode.{decodedOf}
@@ -36,4 +38,4 @@ decode-asks t received padded room f n h =
     ⊎-elim (λ a. a) (λ q. spared-asks f (prepared-spares t (length received) (length padded) f q))
     (decode-refusal t received padded room f n Asks
     (λ ok small vs e. walk-refusal t (payloadOf (workingOf t received)) room Asks
-    (λ i x last at g l w k. subst Asked k (field-asked (payloadOf (workingOf t received)) (t .field i) i last at w)) (λ i. tt) (λ k c m. tt) vs f e) h)
+    (λ i x last at g l w k. asks-against g (subst (Meets Above) k (field-asks (payloadOf (workingOf t received)) (t .field i) i last at w))) (λ i. tt) (λ k c m. tt) vs f e) h)

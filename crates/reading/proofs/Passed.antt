@@ -104,7 +104,7 @@ module _ (t : Table) (p : Payload) (room : ℕ) where
       let o : last ≡ lastBy t i e = looks-last t (t .count) i e last l in
       subst Right (sym (q .span)) (record { ruled = rw (← o) (q .took); looks = rw (← o) l })
 
-  passed-one : (i : ℕ) (e : Element) (last : Bool) (s : Progress) (v : Span) (z : Progress) → Looks t (t .count) i e last → oneOf t p room i e last s ≡ hit v z → Passed s (v ∷ []) z
+  pub passed-one : (i : ℕ) (e : Element) (last : Bool) (s : Progress) (v : Span) (z : Progress) → Looks t (t .count) i e last → oneOf t p room i e last s ≡ hit v z → Passed s (v ∷ []) z
   passed-one i e last s v z l h =
       let q = says i e last s v z h in
       let a : v .start .0 ≡ s .at .0 = ap (λ (u : Span). u .start .0) (q .span) in

@@ -2,7 +2,7 @@
 -- before its walk or as its walk is. Assumes nothing.
 use mathlib.Core.Path.{_≡_, refl, ap, _∙_, subst}
 use mathlib.Core.Bool.{Bool, true, false}
-use mathlib.Core.List.{List, [], _∷_}
+use mathlib.Core.List.{List}
 use mathlib.Core.Logic.{_⊎_, inl, inr}
 use Prim.Native.Nat.{ℕ, _*_, _≤_}
 use native.Mathlib.Omega.{arith}
@@ -36,8 +36,7 @@ use Rattle.reading.specs.declared.Decoded.the-variants as decoded
 use Rattle.reading.specs.Groups.{tooMany}
 use Rattle.reading.specs.Filling.{workingOf, preparedOf}
 use Rattle.reading.specs.Decode.{settled, oneOf, countOf, beginning, walkOf, endOf, decodedIn, decodedOf}
-use Rattle.reading.proofs.Told.{lies-in}
-use Rattle.reading.proofs.Passed.{says}
+use Rattle.reading.proofs.Passed.{passed-one}
 use Rattle.reading.proofs.Working.{readied, working-le}
 
 -- what is read of a field is refused as its bits are
@@ -65,13 +64,6 @@ module _ (t : Table) (p : Payload) (room : ℕ) (P : DecodeRefusal → Type 0)
   abbrev Within : Progress → List Span → Progress → Type 0
   Within s vs z = s .at .0 ≤ p .size * 8 → z .at .0 ≤ p .size * 8
 
-  within-one : (i : ℕ) (e : Element) (last : Bool) (s : Progress) (v : Span) (z : Progress) → oneOf t p room i e last s ≡ hit v z → Within s (v ∷ []) z
-  within-one i e last s v z h l =
-      let q = says t p room i e last s v z h in
-      let a : v .start .0 ≡ s .at .0 = ap (λ (u : Span). u .start .0) (q .span) in
-      let g = lies-in (t .field i) p (s .at .0) (v .bits) i last (q .took) in
-      omega (arith, q .ahead, a, g .0)
-
   -- .. and if it is refused, P holds
   abbrev Stops : Progress → DecodeRefusal → Type 0
   Stops s f = s .at .0 ≤ p .size * 8 → P f
@@ -88,7 +80,7 @@ module _ (t : Table) (p : Payload) (room : ℕ) (P : DecodeRefusal → Type 0)
   lawful : Lawful Within Stops beginning (walkOf t p room)
   unfolding walkFrom
   lawful = lawful-fields t (oneOf t p room) (countOf t p) tooMany (t .count) Within Stops (λ s l. l) (λ s m z us ws a b l. b (a l))
-      (λ i e last s v z l h. within-one i e last s v z h)
+      (λ i e last s v z l h. passed-one t p room i e last s v z l h .inside)
       (λ i e last s f l h. stops-by i e last s f l (fieldReadOf p (t .field i) i last (s .at .0)) refl h)
       (λ k s w. over k _ _) beginning
 
