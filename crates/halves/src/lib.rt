@@ -4,6 +4,8 @@
 // those of 64 and more included: nothing is left then. `ones` answers so many ones, 64 at the most. No
 // call has a `requires`. A half is shifted by less than 32, and a whole number by 32 alone, which is a
 // move of halves: tests/shifts.sh holds the compiler's own form to that. Why by cases: decision 86.
+#![tactic(auto)]
+
 ghost use Rattle.std.specs.Prelude.{◌≡◌, ◌+◌, ◌-◌, ◌*◌, ◌/◌, ◌%◌, ◌^◌, min};
 
 // The upper half of a number.
