@@ -4,6 +4,8 @@
 // moved cursor, or refusal 6, 1, 3 or 2, tested in that order, exactly as specs/Calls.antt says; a
 // refused call changes neither cursor nor buffer. No call has a `requires`, and nothing is assumed.
 // A cursor is a value: it goes in and the moved one comes back. The buffer is lent to each call.
+#![tactic(auto)]
+
 ghost use Rattle.std.specs.Prelude.{◌≡◌, length};
 ghost use Rattle.bits.specs.Calls.{cursor_at, remaining_of};
 
