@@ -3,6 +3,8 @@
 // Promise: `value_of` takes any byte and `digit_of` any number, and each answers as specs/Digits.antt
 // says. The two undo each other, and so do bytes and their digits: proofs/Inverse.antt. No call has a
 // `requires`.
+#![tactic(auto)]
+
 ghost use Rattle.std.specs.Prelude.{◌≡◌};
 ghost use Rattle.hexadecimal.specs.Digits.{value_of, digit_of_lem};
 
