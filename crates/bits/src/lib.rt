@@ -19,28 +19,28 @@ mod writes;
 pub use crate::limits::{least, room_for, sum};
 
 // A place in a buffer, or a distance, in bits.
-#[derive(Drop)]
+#[derive(Clone, Copy)]
 pub struct BitPos(pub usize);
 
 // A count of bytes. No count of bits is ever one.
-#[derive(Drop)]
+#[derive(Clone, Copy)]
 pub struct ByteCount(pub usize);
 
 // Where the next call reads or writes.
-#[derive(Drop)]
+#[derive(Clone, Copy)]
 pub struct Cursor {
     pub at: BitPos,
 }
 
 // A part of a buffer: `len` bytes after the first `start`. `bytes` hands them out.
-#[derive(Drop)]
+#[derive(Clone, Copy)]
 pub struct Part {
     pub start: ByteCount,
     pub len: ByteCount,
 }
 
 // The refusals of a bit call. `number` gives document 01's number, `carried` what it carries.
-#[derive(Drop)]
+#[derive(Clone, Copy)]
 pub enum BitRefusal {
     // 6: the buffer is over 65,536 bytes.
     BufferTooLong {
@@ -68,46 +68,46 @@ pub enum BitRefusal {
 }
 
 // What stands in the way of a call: nothing, or its refusal.
-#[derive(Drop)]
+#[derive(Clone, Copy)]
 pub enum Room {
     Fits,
     Refused(BitRefusal),
 }
 
 // The answers of the reads: the number and the moved cursor, or the refusal.
-#[derive(Drop)]
+#[derive(Clone, Copy)]
 pub enum ReadU64 {
     Got { value: u64, next: Cursor },
     Refused(BitRefusal),
 }
 
-#[derive(Drop)]
+#[derive(Clone, Copy)]
 pub enum ReadU32 {
     Got { value: u32, next: Cursor },
     Refused(BitRefusal),
 }
 
-#[derive(Drop)]
+#[derive(Clone, Copy)]
 pub enum ReadU16 {
     Got { value: u16, next: Cursor },
     Refused(BitRefusal),
 }
 
-#[derive(Drop)]
+#[derive(Clone, Copy)]
 pub enum ReadU8 {
     Got { value: u8, next: Cursor },
     Refused(BitRefusal),
 }
 
 // The answer of `read_slice`: where the bytes stand in the buffer.
-#[derive(Drop)]
+#[derive(Clone, Copy)]
 pub enum ReadSlice {
     Got { part: Part, next: Cursor },
     Refused(BitRefusal),
 }
 
 // The answer of a call that hands out no number: the moved cursor.
-#[derive(Drop)]
+#[derive(Clone, Copy)]
 pub enum Moved {
     To { next: Cursor },
     Refused(BitRefusal),
