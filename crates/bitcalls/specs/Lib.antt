@@ -1,4 +1,4 @@
 pub mod Names
 pub mod Text
 pub mod Answers
-pub mod Contracts
+pub mod Clauses

@@ -5,7 +5,7 @@ ghost use Rattle.text.specs.Sheet.{Puts};
 ghost use Rattle.columns.specs.Parts.{field};
 ghost use Rattle.columns.specs.Numbers.{decimal_in};
 ghost use Rattle.bitcalls.specs.Answers.{counted_text, form_text, answer_text, answered};
-ghost use Rattle.bitcalls.specs.Contracts.{Passes};
+ghost use Rattle.bitcalls.specs.Clauses.{Passes};
 
 use crate::names::{Call, call_of, count_max, spaces_of};
 use crate::reads::{put_advance, put_read, put_remaining, put_slice};

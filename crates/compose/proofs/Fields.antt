@@ -14,7 +14,7 @@ use Rattle.bits.proofs.Written.{below}
 use Rattle.columns.specs.Parts.{space, part_end_lem, parts_of, field}
 use Rattle.columns.proofs.Cuts.{part-last, part-more}
 use Rattle.compose.specs.Answers.{is_t_lem, leading}
-use Rattle.compose.specs.Contracts.{fields_after}
+use Rattle.compose.specs.Clauses.{fields_after}
 
 module _ (line : List ℕ) where
   pub none_after : (end : ℕ) → length line ≤ end → fields_after end line ≡ []

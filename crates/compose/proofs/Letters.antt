@@ -20,7 +20,7 @@ use Rattle.columns.proofs.Stored.{run_in, buffer_in}
 use Rattle.compose.specs.declared.entries.Entry.{Entry}
 use Rattle.compose.specs.Decimals.{head_of, tail_of}
 use Rattle.compose.specs.Values.{Value, number, text, none, numbered, text_value, colon, encoding_head, encoded_value, kind_max, coded_value, by_letter, value_of}
-use Rattle.compose.specs.Contracts.{entry, entry_of, told, told_by}
+use Rattle.compose.specs.Clauses.{entry, entry_of, told, told_by}
 
 -- ## Numbers
 

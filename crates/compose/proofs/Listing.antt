@@ -18,7 +18,7 @@ use Rattle.compose.specs.declared.entries.Entry.{Entry}
 use Rattle.compose.specs.declared.entries.Listed.{Listed}
 use Rattle.compose.specs.Values.{Value, number, text, none, value_of}
 use Rattle.compose.specs.Records.{low_bytes, record_by, record_of_lem, text_of, is_value, Lists, lists, unlisted, more, lists_from}
-use Rattle.compose.specs.Contracts.{entry_of, Told, told, told_by, no_listed, taken}
+use Rattle.compose.specs.Clauses.{entry_of, Told, told, told_by, no_listed, taken}
 
 -- ## A record has 24 bytes
 

@@ -29,7 +29,7 @@ use Rattle.writing.proofs.Loops.{length-image}
 use Rattle.frame_lines.specs.Lines.{malformed_line}
 use Rattle.compose.specs.Answers.{outcome_text, buffer_text, encode_text, comma, are_words_lem, buffer_of, table_text, known_text, pgn_line, fields_of, is_t_lem, leading, order_text, listed_text, answered}
 use Rattle.compose.specs.Records.{lists, unlisted, lists_from, records_max, texts_max, lists_of}
-use Rattle.compose.specs.Contracts.{taken, fields_after}
+use Rattle.compose.specs.Clauses.{taken, fields_after}
 use Rattle.compose.specs.declared.entries.Listed.{Listed}
 
 -- ## By a table

@@ -2,4 +2,4 @@ pub mod Decimals
 pub mod Values
 pub mod Records
 pub mod Answers
-pub mod Contracts
+pub mod Clauses

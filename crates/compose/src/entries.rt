@@ -3,7 +3,7 @@ ghost use Rattle.std.specs.Prelude.{◌≤◌, ◌≡◌, true, length};
 ghost use Rattle.text.specs.Sheet.{Puts};
 ghost use Rattle.compose.specs.Values.{numbered, text_value, encoded_value, coded_value, none, value_of};
 ghost use Rattle.compose.specs.Records.{low_bytes, record_by};
-ghost use Rattle.compose.specs.Contracts.{entry, entry_of, told, told_by, no_listed, Adds, Collects};
+ghost use Rattle.compose.specs.Clauses.{entry, entry_of, told, told_by, no_listed, Adds, Collects};
 
 use crate::decimals;
 use crate::decimals::{head, tail};

@@ -3,7 +3,7 @@ ghost use Rattle.std.specs.Prelude.{◌≡◌, drop};
 ghost use Rattle.text.specs.Sheet.{Puts};
 ghost use Rattle.columns.specs.Parts.{space, parts_of};
 ghost use Rattle.compose.specs.Answers.{is_t_lem, leading, order_text, answered};
-ghost use Rattle.compose.specs.Contracts.{fields_after, Passes};
+ghost use Rattle.compose.specs.Clauses.{fields_after, Passes};
 
 use crate::answers::put_malformed;
 use crate::encodes::{put_by_pgn, put_by_table};

@@ -10,7 +10,7 @@
 //
 //     decode          all of it in one call
 //     fresh, turn     turn by turn, for a run of something else that is made of each reading
-ghost use Rattle.lent_readings.specs.Contracts.{Decodes};
+ghost use Rattle.lent_readings.specs.Clauses.{Decodes};
 
 use reading::{Decoded, Reading, Walk};
 

@@ -3,7 +3,7 @@ ghost use Rattle.std.specs.Prelude.{◌≡◌};
 ghost use Rattle.bits.specs.Calls.{bits};
 ghost use Rattle.reading.specs.declared.Decoded.TheVariants as decoded;
 ghost use Rattle.lent_readings.specs.Steps.{blank, fresh_step, on_step, storing_step, over_step, begun_by, turned_by_lem};
-ghost use Rattle.lent_readings.specs.Contracts.{Turns};
+ghost use Rattle.lent_readings.specs.Clauses.{Turns};
 
 use crate::Step;
 use bits::BitPos;

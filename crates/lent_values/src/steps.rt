@@ -1,7 +1,7 @@
 // One turn of the walk. A turn takes the value at the place that the turn before it asked for.
 ghost use Rattle.std.specs.Prelude.{◌≡◌, ltb};
 ghost use Rattle.lent_values.specs.Turn.{offer_by, fresh_step, going_on_lem, over_with_lem, next_by};
-ghost use Rattle.lent_values.specs.Contracts.{Begins, Goes, Steps};
+ghost use Rattle.lent_values.specs.Clauses.{Begins, Goes, Steps};
 
 use crate::Step;
 use bits::ByteCount;

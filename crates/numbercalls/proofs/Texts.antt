@@ -13,7 +13,7 @@ use Rattle.columns.specs.Names.{same}
 use Rattle.columns.specs.declared.Number.{Number}
 use Rattle.offers.specs.Records.{offer_of_lem}
 use Rattle.samopute_c.specs.Values.{scale_status, scale_cells}
-use Rattle.samopute_c.specs.Contracts.{GivesRaw}
+use Rattle.samopute_c.specs.Clauses.{GivesRaw}
 use Rattle.numbercalls.specs.declared.fields.Code.{Code}
 use Rattle.numbercalls.specs.declared.fields.Field.{Field}
 use Rattle.numbercalls.specs.Names.{value_kind_names, scale_name, raw_name}

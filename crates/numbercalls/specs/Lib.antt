@@ -1,4 +1,4 @@
 pub mod Names
 pub mod Fields
 pub mod Answers
-pub mod Contracts
+pub mod Clauses

@@ -2,7 +2,7 @@
 ghost use Rattle.std.specs.Prelude.{◌≡◌};
 ghost use Rattle.text.specs.Sheet.{Puts};
 ghost use Rattle.numbercalls.specs.Answers.{is_call, call_text, answer_text, answered};
-ghost use Rattle.numbercalls.specs.Contracts.{Passes};
+ghost use Rattle.numbercalls.specs.Clauses.{Passes};
 
 use crate::calls::{put_raw, put_scale};
 use crate::fields::{Field, field_of};

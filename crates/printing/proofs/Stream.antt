@@ -20,7 +20,7 @@ use Rattle.frames.specs.Frames.{frame_by}
 use Rattle.printing.specs.declared.Passed.{Passed}
 use Rattle.printing.specs.Text.{answered, printed}
 use Rattle.printing.specs.Answers.{answer_by, Kept, kept, samopute}
-use Rattle.printing.specs.Contracts.{Passes}
+use Rattle.printing.specs.Clauses.{Passes}
 use Rattle.printing.proofs.Paper.{exact}
 use Rattle.printing.proofs.Sizes.{page, answer-size}
 

@@ -1,3 +1,3 @@
 pub mod Text
 pub mod Answers
-pub mod Contracts
+pub mod Clauses

@@ -2,7 +2,7 @@
 // "Cases".
 //
 // Promise: specs/Text.antt says which text is printed for any input; `put_answer` puts the answer to a
-// line, and `pass` those of the lines that end in a chunk, as specs/Contracts.antt has it: one answer,
+// line, and `pass` those of the lines that end in a chunk, as specs/Clauses.antt has it: one answer,
 // one content of each lent buffer. proofs/Stream.antt shows, for any list of calls, that all that was
 // put and what is owed is the text of all that was taken, whatever the chunks and the pages; that with
 // an empty page of PAGE bytes no line waits for its answer twice; and that enough calls take all of a

@@ -1,6 +1,6 @@
 // A chunk of input, line by line.
 ghost use Rattle.std.specs.Prelude.{◌≡◌};
-ghost use Rattle.printing.specs.Contracts.{passed_at, Passes, PassesLines};
+ghost use Rattle.printing.specs.Clauses.{passed_at, Passes, PassesLines};
 
 use crate::Passed;
 use crate::answers::put_answer;

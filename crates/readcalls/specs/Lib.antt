@@ -1,4 +1,4 @@
 pub mod Lines
 pub mod Answers
 pub mod Alike
-pub mod Contracts
+pub mod Clauses

@@ -6,7 +6,7 @@ ghost use Rattle.columns.specs.Numbers.{decimal_in};
 ghost use Rattle.tables.specs.Table.{table_of};
 ghost use Rattle.readcalls.specs.Lines.{untouched, last_line_lem, run_line, decode_text};
 ghost use Rattle.readcalls.specs.Answers.{padding_max, answered};
-ghost use Rattle.readcalls.specs.Contracts.{Passes};
+ghost use Rattle.readcalls.specs.Clauses.{Passes};
 
 use crate::alike::{is_same, put_difference};
 use crate::answers::{UNTOUCHED, put_decoded, put_run};

@@ -7,7 +7,7 @@ ghost use Rattle.tables.specs.Check.{check_of};
 ghost use Rattle.tables.specs.declared.Checked.TheVariants.{Accepted};
 ghost use Rattle.reading.specs.Steps.{handed};
 ghost use Rattle.readcalls.specs.Lines.{reading_line};
-ghost use Rattle.readcalls.specs.Contracts.{Walks, Turns};
+ghost use Rattle.readcalls.specs.Clauses.{Walks, Turns};
 
 use crate::answers::put_reading;
 use reading::{Answer, Came, Decoded, Prepared};

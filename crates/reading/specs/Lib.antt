@@ -1,4 +1,4 @@
-pub mod Contracts
+pub mod Clauses
 pub mod Groups
 pub mod Filling
 pub mod Decode

@@ -4,7 +4,7 @@ ghost use Rattle.tables.specs.Table.{table_of};
 ghost use Rattle.tables.specs.Check.{check_of};
 ghost use Rattle.tables.specs.declared.Checked.TheVariants as checked;
 ghost use Rattle.reading.specs.Demand3.{room_enough_lem};
-ghost use Rattle.reading.specs.Contracts.{Decodes, walked_by};
+ghost use Rattle.reading.specs.Clauses.{Decodes, walked_by};
 
 use crate::{Came, Decoded, Prepared, ROOM_ENOUGH, filling, turns};
 

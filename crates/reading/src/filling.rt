@@ -2,7 +2,7 @@
 ghost use Rattle.std.specs.Prelude.{◌≡◌, ◌++◌, ◌-◌, ◌≤◌, length, take, drop, replicate, get_or};
 ghost use Rattle.tables.specs.Table.{table_of};
 ghost use Rattle.reading.specs.Filling.{fills, picked_of, prepared_of};
-ghost use Rattle.reading.specs.Contracts.{Prepares};
+ghost use Rattle.reading.specs.Clauses.{Prepares};
 
 use crate::Prepared;
 use bits::{ByteCount, least};

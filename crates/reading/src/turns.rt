@@ -3,7 +3,7 @@ ghost use Rattle.std.specs.Prelude.{◌≡◌};
 ghost use Rattle.tables.specs.Table.{table_of};
 ghost use Rattle.walking.specs.declared.Look.TheVariants as look;
 ghost use Rattle.fields.specs.Payload.{payload_of};
-ghost use Rattle.reading.specs.Contracts.{ReadOf};
+ghost use Rattle.reading.specs.Clauses.{ReadOf};
 ghost use Rattle.reading.specs.Decode.{reading_of};
 ghost use Rattle.reading.specs.Steps.{next_to, shown_at, next_of, start_of, came_to_lem};
 

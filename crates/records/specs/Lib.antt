@@ -1,4 +1,4 @@
-pub mod Contracts
+pub mod Clauses
 pub mod Layout
 pub mod Into
 pub mod Pgn

@@ -5,7 +5,7 @@ ghost use Rattle.tables.specs.Check.{check_of};
 ghost use Rattle.tables.specs.declared.Checked.TheVariants as checked;
 ghost use Rattle.records.specs.Layout.{room_in_lem};
 ghost use Rattle.records.specs.Stretches.{count_in_lem, counted};
-ghost use Rattle.records.specs.Contracts.{Walks, DecodesInto};
+ghost use Rattle.records.specs.Clauses.{Walks, DecodesInto};
 
 use crate::layout::put_word;
 use crate::walks;

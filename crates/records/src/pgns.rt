@@ -5,7 +5,7 @@ ghost use Rattle.tables.specs.Table.{table_of};
 ghost use Rattle.tables.specs.Check.{check_of};
 ghost use Rattle.tables.specs.declared.Checked.TheVariants as checked;
 ghost use Rattle.messages.specs.Messages.{words_of};
-ghost use Rattle.records.specs.Contracts.{Reads, DecodesByPgn};
+ghost use Rattle.records.specs.Clauses.{Reads, DecodesByPgn};
 
 use crate::{ByPgn, into};
 use bits::ByteCount;

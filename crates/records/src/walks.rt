@@ -8,7 +8,7 @@ ghost use Rattle.fields.specs.Payload.{payload_of};
 ghost use Rattle.reading.specs.Decode.{progress_at};
 ghost use Rattle.reading.specs.Steps.{walk_at_lem};
 ghost use Rattle.records.specs.Stretches.{Plains, Roomy, Leads, LeadsIn};
-ghost use Rattle.records.specs.Contracts.{Turns, Stores};
+ghost use Rattle.records.specs.Clauses.{Turns, Stores};
 
 use crate::{Stretch, readings, runs, stretches};
 use bits::BitPos;

@@ -1,4 +1,4 @@
-pub mod Contracts
+pub mod Clauses
 pub mod Answers
 pub mod Values
 pub mod Checks

@@ -2,7 +2,7 @@
 // says.
 ghost use Rattle.std.specs.Prelude.{◌≡◌};
 ghost use Rattle.samopute_c.specs.Decodes.{decoded_status, decoded_cells, filled_by_lem, version_of};
-ghost use Rattle.samopute_c.specs.Contracts.{Tells, Decodes, DecodesPgn};
+ghost use Rattle.samopute_c.specs.Clauses.{Tells, Decodes, DecodesPgn};
 
 use reading::Decoded;
 use records::ByPgn;

@@ -2,7 +2,7 @@
 ghost use Rattle.std.specs.Prelude.{◌≡◌};
 ghost use Rattle.messages.specs.Messages.{words_of};
 ghost use Rattle.samopute_c.specs.Encodes.{encoded_status, encoded_cells};
-ghost use Rattle.samopute_c.specs.Contracts.{Encodes, EncodesPgn};
+ghost use Rattle.samopute_c.specs.Clauses.{Encodes, EncodesPgn};
 
 use messages::{Known, Message};
 use writing::Encoded;

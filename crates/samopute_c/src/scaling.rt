@@ -1,7 +1,7 @@
 // The calls on numbers: from a raw to its value, and back.
 ghost use Rattle.std.specs.Prelude.{◌≡◌, [], ◌∷◌};
 ghost use Rattle.offers.specs.Records.{offer_of_lem};
-ghost use Rattle.samopute_c.specs.Contracts.{GivesRaw};
+ghost use Rattle.samopute_c.specs.Clauses.{GivesRaw};
 ghost use Rattle.samopute_c.specs.Values.{field_of, scale_status, scaled_cells, scale_cells};
 
 use crate::worded::{field_of, raw_of};

@@ -2,7 +2,7 @@
 ghost use Rattle.std.specs.Prelude.{◌≡◌, length};
 ghost use Rattle.bits.specs.Calls.{cursor_at, advance_of};
 ghost use Rattle.samopute_c.specs.Answers.{Laid, of_moved};
-ghost use Rattle.samopute_c.specs.Contracts.{Writes, WritesSlice};
+ghost use Rattle.samopute_c.specs.Clauses.{Writes, WritesSlice};
 
 use crate::tell_moved;
 use bits::{BitPos, Cursor};

@@ -6,7 +6,7 @@
 // `records`: proofs/Same.antt. No call has a `requires`.
 ghost use Rattle.std.specs.Prelude.{◌≡◌};
 ghost use Rattle.structs.specs.Structs.{struct_of};
-ghost use Rattle.structs.specs.Contracts.{DecodesRun};
+ghost use Rattle.structs.specs.Clauses.{DecodesRun};
 
 use lent_readings::Step;
 use reading::Decoded;

@@ -22,7 +22,7 @@ use Rattle.tables.specs.Check.{check_of, letter_of}
 use Rattle.tables.specs.declared.Checked.{Checked}
 use Rattle.tables.specs.declared.Checked.TheVariants.{Accepted, Refused}
 use Rattle.tablecalls.specs.Answers.{checked_text, is_table, answered, printed, line_max}
-use Rattle.tablecalls.specs.Contracts.{tablecalls}
+use Rattle.tablecalls.specs.Clauses.{tablecalls}
 use Rattle.tablecalls.proofs.Short.{uncapped}
 
 -- the bytes of a page

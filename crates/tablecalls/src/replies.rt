@@ -3,7 +3,7 @@ ghost use Rattle.std.specs.Prelude.{◌≡◌};
 ghost use Rattle.text.specs.Sheet.{Puts};
 ghost use Rattle.tables.specs.Check.{letter_of};
 ghost use Rattle.tablecalls.specs.Answers.{checked_text, answered};
-ghost use Rattle.tablecalls.specs.Contracts.{Passes};
+ghost use Rattle.tablecalls.specs.Clauses.{Passes};
 
 use tables::{Checked, TableRule};
 

@@ -1,4 +1,4 @@
-pub mod Contracts
+pub mod Clauses
 pub mod Ink
 pub mod Encode
 pub mod Strokes

@@ -2,7 +2,7 @@
 ghost use Rattle.std.specs.Prelude.{◌≡◌, length, replicate};
 ghost use Rattle.tables.specs.Table.{table_of};
 ghost use Rattle.writing.specs.Encode.{begun_of};
-ghost use Rattle.writing.specs.Contracts.{Begins};
+ghost use Rattle.writing.specs.Clauses.{Begins};
 
 use crate::Begun;
 use bits::ByteCount;

@@ -4,7 +4,7 @@ ghost use Rattle.bits.specs.Calls.{bytes};
 ghost use Rattle.tables.specs.Table.{table_of};
 ghost use Rattle.tables.specs.Check.{check_of};
 ghost use Rattle.tables.specs.declared.Checked.TheVariants as checked;
-ghost use Rattle.writing.specs.Contracts.{Writes, Encodes};
+ghost use Rattle.writing.specs.Clauses.{Writes, Encodes};
 
 use crate::{Begun, Encoded, Stroke, begins, strokes};
 use bits::{BitPos, ByteCount};

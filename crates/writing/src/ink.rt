@@ -6,7 +6,7 @@ ghost use Rattle.tables.specs.Check.{payload_max};
 ghost use Rattle.writing.specs.Ink.{poured, bytes_by, text_in_lem, around, inked, Puttable};
 ghost use Rattle.writing.specs.Ones.{inks};
 ghost use Rattle.weighing.specs.Weigh.{weighed_of};
-ghost use Rattle.writing.specs.Contracts.{Puts};
+ghost use Rattle.writing.specs.Clauses.{Puts};
 
 use bits::{BitPos, Cursor};
 use descriptor::{FieldDescriptor, PgnBytes, PgnValue};

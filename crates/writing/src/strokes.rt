@@ -4,7 +4,7 @@ ghost use Rattle.tables.specs.Table.{table_of};
 ghost use Rattle.walking.specs.declared.Look.TheVariants as look;
 ghost use Rattle.writing.specs.Encode.{content_of_lem, pen_after_lem};
 ghost use Rattle.writing.specs.Strokes.{stroked_to, size_of, Reaches, stroke_by, spot_by, end_by_lem, start_of, nothing, weighing_to, weighing_at, weighing_of};
-ghost use Rattle.writing.specs.Contracts.{Enters, WritesNext};
+ghost use Rattle.writing.specs.Clauses.{Enters, WritesNext};
 
 use crate::ink::put_weighed;
 use crate::{Draft, Pen, Stroke, Stroked, Weighing};

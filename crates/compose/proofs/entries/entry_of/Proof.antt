@@ -6,7 +6,7 @@ use lib.ListN.{length, take, drop}
 use Rattle.columns.specs.declared.Number.{Number}
 use Rattle.compose.specs.declared.entries.Entry.{Entry}
 use Rattle.compose.specs.Values.{Value, none, numbered}
-use Rattle.compose.specs.Contracts.{entry_of, told, told_by}
+use Rattle.compose.specs.Clauses.{entry_of, told, told_by}
 use Rattle.compose.proofs.Letters.{number-plain, plain, coded-told, empty, letter, no-letter}
 use borrow.Author.Rules.{rules}
 use Rattle.compose.proofs.entries.entry_of.Statement.{statement}

@@ -9,7 +9,7 @@ use borrow.Author.Tests.{not-true, not-false}
 use native.Mathlib.Omega.{arith}
 use lib.ListN.{length}
 use Rattle.compose.specs.Records.{lists, lists_from}
-use Rattle.compose.specs.Contracts.{taken, fields_after}
+use Rattle.compose.specs.Clauses.{taken, fields_after}
 use Rattle.compose.proofs.Fields.{none_after, next_field}
 use Rattle.compose.proofs.Listing.{turned, finished, gone}
 use Rattle.compose.proofs.entries.list_values.Statement.{statement}

@@ -12,7 +12,7 @@ use Rattle.lines.specs.Machine.{Passed, passed, pass_from}
 use Rattle.frames.specs.declared.Line.{Line}
 use Rattle.printing.specs.declared.Passed as own
 use Rattle.printing.specs.Answers.{Kept, kept, samopute}
-use Rattle.printing.specs.Contracts.{passed_at}
+use Rattle.printing.specs.Clauses.{passed_at}
 use Rattle.printing.proofs.Taking.{Way, Took, few, chunk-done, line-waits, line-answered}
 use Rattle.printing.proofs.passing.pass_lines.Statement.{statement}
 use Rattle.printing.proofs.passing.pass_lines.Tie as tie

@@ -8,7 +8,7 @@ use Rattle.messages.specs.declared.Message.TheVariants.{M129025, M129026, M12902
 use Rattle.messages.specs.Messages.{words_of}
 use Rattle.messages.proofs.Accepted.{accepted, no-minimum}
 use Rattle.reading.specs.declared.Decoded.{Decoded}
-use Rattle.records.specs.Contracts.{Reads}
+use Rattle.records.specs.Clauses.{Reads}
 use borrow.Author.Rules.{rules}
 use Rattle.records.proofs.pgns.by_message.Statement.{statement}
 use Rattle.records.proofs.pgns.by_message.Tie as tie

@@ -10,7 +10,7 @@ use Rattle.records.specs.declared.ByPgn.{ByPgn}
 use Rattle.records.specs.declared.ByPgn.TheVariants.{Unknown, Known}
 use Rattle.records.specs.Into.{decoded_into, out_after}
 use Rattle.records.specs.Pgn.{of_known}
-use Rattle.records.specs.Contracts.{DecodesByPgn}
+use Rattle.records.specs.Clauses.{DecodesByPgn}
 use borrow.Author.Rules.{rules}
 use Rattle.records.proofs.pgns.decode_pgn_into.Statement.{statement}
 use Rattle.records.proofs.pgns.decode_pgn_into.Tie as tie

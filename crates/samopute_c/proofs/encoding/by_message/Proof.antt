@@ -4,7 +4,7 @@ use mathlib.Core.List.{List}
 use Prim.Native.Nat.{ℕ}
 use Rattle.messages.specs.declared.Message.{Message}
 use Rattle.messages.specs.Messages.{words_of}
-use Rattle.samopute_c.specs.Contracts.{Encodes}
+use Rattle.samopute_c.specs.Clauses.{Encodes}
 use borrow.Author.Rules.{rules}
 use Rattle.samopute_c.proofs.encoding.by_message.Statement.{statement}
 use Rattle.samopute_c.proofs.encoding.by_message.Tie as tie

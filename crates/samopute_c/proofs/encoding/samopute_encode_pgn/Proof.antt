@@ -8,7 +8,7 @@ use Rattle.messages.specs.declared.Known.{Known}
 use Rattle.messages.specs.Messages.{message_of_lem}
 use Rattle.records.specs.Pgn.{of_known}
 use Rattle.samopute_c.specs.Encodes.{encoded_status, encoded_cells, encoded_by, payload_after}
-use Rattle.samopute_c.specs.Contracts.{EncodesPgn}
+use Rattle.samopute_c.specs.Clauses.{EncodesPgn}
 use borrow.Author.Rules.{rules}
 use Rattle.samopute_c.proofs.encoding.samopute_encode_pgn.Statement.{statement}
 use Rattle.samopute_c.proofs.encoding.samopute_encode_pgn.Tie as tie

@@ -9,7 +9,7 @@ use Rattle.lines.specs.declared.Passed.{Passed}
 use Rattle.tables.specs.Table.{table_of}
 use Rattle.fields.specs.Payload.{payload_of}
 use Rattle.reading.specs.Decode.{walk_of, readings, spans_of, readings_of}
-use Rattle.reading.specs.Contracts.{Decodes, walked_by}
+use Rattle.reading.specs.Clauses.{Decodes, walked_by}
 use Rattle.readcalls.specs.Lines.{reading_line}
 use Rattle.readcalls.specs.Answers.{answered}
 use Rattle.readcalls.specs.declared.turning.Turned.{Turned}
