@@ -6,6 +6,8 @@
 // paper's bound. No call has a `requires`, and nothing is assumed.
 // A NaN that is answered has no particular sign or payload; its bits, where they are asked for, are
 // those of the one NaN that the logic has.
+#![tactic(auto)]
+
 mod formats;
 mod half_even;
 mod integers;
