@@ -7,9 +7,9 @@ use native.Mathlib.Numerals.{add-one}
 use native.Mathlib.Omega.{arith}
 use borrow.Author.Tests.{lt-ltb, le-ltb, ltb-true, ltb-false}
 use lib.Dec.{ltb}
-use lib.ListN.{length, take, drop, get_or, set, length-set, length-append}
-use lib.Seq.{take-suc, take-suc-set, take-set-le, drop-set-lt, append_snoc}
-use Rattle.text.specs.Sheet.{Sheet, sheet, page_of, place_of, lost, put_by, put_one, put_all, Puts}
+use lib.ListN.{length, take, get_or, set, length-set}
+use lib.Seq.{take-suc, take-suc-set, take-set-le}
+use Rattle.text.specs.Sheet.{Sheet, sheet, page_of, place_of, lost, put_one, put_all, Puts}
 
 -- one text and then the next is both as one
 pub put-append : (s : Sheet) (a b : List ℕ) → put_all s (a ++ b) ≡ put_all (put_all s a) b

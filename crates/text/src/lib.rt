@@ -5,6 +5,8 @@
 // the text is lost: the answer is LOST, and a text that is put there is lost too. So nothing is asked of
 // the room beforehand: a line is put piece by piece, and its last place says whether it is whole. What
 // stands before the place is kept (proofs/Sheets.antt, `stands`). No call has a `requires`.
+#![tactic(auto)]
+
 mod digits;
 mod puts;
 mod refusals;
