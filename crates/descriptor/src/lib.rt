@@ -5,6 +5,8 @@
 // There is no rule here: what a descriptor may hold is the table check's to say, and every value of
 // these types may be given to every call. Every number names a kind, and every mark a resolution: one
 // that is broken names a resolution that the table check refuses.
+#![tactic(auto)]
+
 use bits::ByteCount;
 
 mod kinds;
