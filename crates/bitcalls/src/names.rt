@@ -7,7 +7,7 @@ ghost use Rattle.bitcalls.specs.Names.{calls, call_of, spaces_of_lem, count_max_
 use columns::{place_in, word};
 
 // How wide a number call is at the most.
-#[derive(Drop)]
+#[derive(Clone, Copy)]
 pub(crate) enum Width {
     W64,
     W32,
@@ -15,7 +15,7 @@ pub(crate) enum Width {
     W8,
 }
 
-#[derive(Drop)]
+#[derive(Clone, Copy)]
 pub(crate) enum Call {
     Read(Width),
     Advance,

@@ -15,14 +15,14 @@ pub use crate::parts::{field_end, marks, part, part_end, word};
 pub use crate::runs::{bytes, pairs, words};
 
 // A number that was read; 0 where it is not good.
-#[derive(Drop)]
+#[derive(Clone, Copy)]
 pub struct Number {
     pub good: bool,
     pub value: u64,
 }
 
 // How many values stand at the start of a buffer; 0 where they are not good.
-#[derive(Drop)]
+#[derive(Clone, Copy)]
 pub struct Run {
     pub good: bool,
     pub len: usize,

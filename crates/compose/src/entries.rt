@@ -28,7 +28,7 @@ const KIND_MAX: u64 = 255;
 // A value as its record has it, in three words: the kind, whether there is an encoding byte, and that
 // byte, in the lowest bytes of the first; a number's bits or the place of a text in the lent text; and
 // a text's length.
-#[derive(Drop)]
+#[derive(Clone, Copy)]
 pub(crate) struct Entry {
     pub(crate) good: bool,
     pub(crate) head: u64,
@@ -37,7 +37,7 @@ pub(crate) struct Entry {
 }
 
 // How many bytes the records of a line take, and its texts.
-#[derive(Drop)]
+#[derive(Clone, Copy)]
 pub(crate) struct Listed {
     pub(crate) good: bool,
     pub(crate) bytes: usize,

@@ -14,7 +14,7 @@ mod kinds;
 pub use crate::kinds::{kind_of, resolution_of};
 
 // What a field means. `Decimal` and `Unimplemented` are the Rust's; the table check refuses them.
-#[derive(Drop)]
+#[derive(Clone, Copy)]
 pub enum FieldKind {
     Number,
     Float,
@@ -38,7 +38,7 @@ pub enum FieldKind {
 }
 
 // The factor of a scaled field, with its mark: whether the value is an f32 or an f64.
-#[derive(Drop)]
+#[derive(Clone, Copy)]
 pub enum Resolution {
     Unscaled,
     Single(f32),
@@ -46,7 +46,7 @@ pub enum Resolution {
 }
 
 // One field of a table. A width of 0 is none: nothing tells the two apart.
-#[derive(Drop)]
+#[derive(Clone, Copy)]
 pub struct FieldDescriptor {
     pub kind: FieldKind,
     pub width: u32,
@@ -55,14 +55,14 @@ pub struct FieldDescriptor {
 }
 
 // The encoding byte that a StringLau carries, where it was read or is to be written.
-#[derive(Drop)]
+#[derive(Clone, Copy)]
 pub enum Encoding {
     Absent,
     Byte(u8),
 }
 
 // Text or bytes by their place: `len` bytes after the first `start`.
-#[derive(Drop)]
+#[derive(Clone, Copy)]
 pub struct PgnBytes {
     pub start: ByteCount,
     pub len: ByteCount,
@@ -70,7 +70,7 @@ pub struct PgnBytes {
 }
 
 // A value that was read or is to be written.
-#[derive(Drop)]
+#[derive(Clone, Copy)]
 pub enum PgnValue {
     U64(u64),
     U32(u32),
@@ -86,7 +86,7 @@ pub enum PgnValue {
 }
 
 // Whether a reading says something.
-#[derive(Drop)]
+#[derive(Clone, Copy)]
 pub enum Availability {
     Available,
     NotAvailable,

@@ -21,7 +21,7 @@ pub use crate::refusals::touches_nothing;
 pub use crate::shapes::{is_gap, is_number, shape_of};
 
 // The refusals of a decode. `number` gives document 01's number, `carried` what it carries.
-#[derive(Drop)]
+#[derive(Clone, Copy)]
 pub enum DecodeRefusal {
     // 1, 2 and 3 (and 6 of a payload that no decode lets through): what the bit call refused, and at
     // which field.
@@ -55,7 +55,7 @@ pub enum DecodeRefusal {
 }
 
 // What a field is on the wire.
-#[derive(Drop)]
+#[derive(Clone, Copy)]
 pub enum Shape {
     // A raw; where it is cut short, 4 if `strict`, else what the bit call says.
     Number { strict: bool },
@@ -72,21 +72,21 @@ pub enum Shape {
 }
 
 // The bits that a field takes, or why it cannot be read.
-#[derive(Drop)]
+#[derive(Clone, Copy)]
 pub enum Taken {
     Took(usize),
     Refused(DecodeRefusal),
 }
 
 // The number in a field's bits; a text or bytes have none.
-#[derive(Drop)]
+#[derive(Clone, Copy)]
 pub enum Raw {
     Absent,
     Number(u64),
 }
 
 // The answer of `read_field_raw_and_value`.
-#[derive(Drop)]
+#[derive(Clone, Copy)]
 pub enum FieldRead {
     Got {
         bits: BitPos,

@@ -16,7 +16,7 @@ use messages::Message;
 
 // What is known of a line by its bytes so far: how many digits they are, the number in the first six
 // and the digit that came last. Once a byte is no digit the line is bad, and nothing else counts.
-#[derive(Drop)]
+#[derive(Clone, Copy)]
 pub struct Line {
     pub bad: bool,
     pub digits: usize,
@@ -25,7 +25,7 @@ pub struct Line {
 }
 
 // How many bytes of a piece belong to the line, and what is known of it with them.
-#[derive(Drop)]
+#[derive(Clone, Copy)]
 pub struct Fed {
     pub line: Line,
     pub taken: usize,
@@ -33,7 +33,7 @@ pub struct Fed {
 
 // What a line is: a frame of a built-in message, with the bytes of its payload counted; or 14 or 15, as
 // specs/Refusals.antt numbers them.
-#[derive(Drop)]
+#[derive(Clone, Copy)]
 pub enum Frame {
     Got {
         message: Message,

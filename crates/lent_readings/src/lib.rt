@@ -19,7 +19,7 @@ mod steps;
 pub use crate::steps::{decoded_of, fresh, is_over, place_of, reading_of, stores, turn};
 
 // A decode between two turns.
-#[derive(Drop)]
+#[derive(Clone, Copy)]
 pub struct Step {
     // The reading is to be stored at `place`.
     pub stores: bool,

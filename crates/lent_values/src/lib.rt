@@ -14,7 +14,7 @@ mod steps;
 
 // A walk between two turns: whether the next value is wanted, and its place; whether the walk is over,
 // and then its answer; whether it has not begun.
-#[derive(Drop)]
+#[derive(Clone, Copy)]
 pub(crate) struct Step {
     wants: bool,
     over: bool,

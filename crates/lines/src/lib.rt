@@ -12,14 +12,14 @@ pub use crate::passing::{answered, begin, next};
 
 // What is held of a line: so many bytes, in the lent buffer; `long` says that the line has more than
 // there was room for.
-#[derive(Drop)]
+#[derive(Clone, Copy)]
 pub struct Held {
     pub count: usize,
     pub long: bool,
 }
 
 // How many bytes of a piece belong to the line, and what is held with them.
-#[derive(Drop)]
+#[derive(Clone, Copy)]
 pub struct Fed {
     pub held: Held,
     pub taken: usize,
@@ -27,7 +27,7 @@ pub struct Fed {
 
 // How far a call has come: what is held; whether that is a whole line that waits for its answer; the
 // bytes of the chunk that are taken; the place after the text; whether the call is over.
-#[derive(Drop)]
+#[derive(Clone, Copy)]
 pub struct Passed {
     pub held: Held,
     pub waits: bool,

@@ -14,7 +14,7 @@ mod lookup;
 pub use crate::lookup::message_of;
 
 // The built-in messages, by their PGNs.
-#[derive(Drop)]
+#[derive(Clone, Copy)]
 pub enum Message {
     M129025,
     M129026,
@@ -23,7 +23,7 @@ pub enum Message {
 }
 
 // The message of a PGN, if it is a built-in one.
-#[derive(Drop)]
+#[derive(Clone, Copy)]
 pub enum Known {
     Message(Message),
     Unknown,

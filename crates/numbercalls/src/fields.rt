@@ -6,13 +6,13 @@ ghost use Rattle.numbercalls.specs.Fields.{no_code_lem, code_if_lem, placed, num
 use columns::word;
 
 // A number of 32 bits, where there is one.
-#[derive(Drop)]
+#[derive(Clone, Copy)]
 pub(crate) struct Code {
     pub(crate) good: bool,
     pub(crate) value: u32,
 }
 
-#[derive(Drop)]
+#[derive(Clone, Copy)]
 pub(crate) struct Field {
     pub(crate) good: bool,
     pub(crate) kind: u32,

@@ -22,7 +22,7 @@ pub use crate::special::{counter_elements, number_availability};
 pub use crate::words::{code_of, number_words, silence_of, simple_words, word_of};
 
 // The rules by which a raw becomes a value and a value a raw.
-#[derive(Drop)]
+#[derive(Clone, Copy)]
 pub(crate) enum ScaleRule {
     // Number, Lookup, IndirectLookup, Pgn, IsoName.
     Plain,
@@ -39,7 +39,7 @@ pub(crate) enum ScaleRule {
 }
 
 // The answer of `number_words`: the code of the value's kind, its 64 bits, and 1 if it says nothing.
-#[derive(Drop)]
+#[derive(Clone, Copy)]
 pub struct NumberWords {
     pub code: u64,
     pub word: u64,
@@ -47,7 +47,7 @@ pub struct NumberWords {
 }
 
 // Whether a field holds a number.
-#[derive(Drop)]
+#[derive(Clone, Copy)]
 pub enum Holds {
     Number,
     // 11: text, bytes, bits that are skipped, or a kind that document 01 does not have.
@@ -57,7 +57,7 @@ pub enum Holds {
 }
 
 // The answer of `quantize`. `number` gives document 01's number, `carried` what it carries.
-#[derive(Drop)]
+#[derive(Clone, Copy)]
 pub enum Quantized {
     Raw(u64),
     // 1
@@ -67,26 +67,26 @@ pub enum Quantized {
 }
 
 // The answers of the conversions.
-#[derive(Drop)]
+#[derive(Clone, Copy)]
 pub enum AsF64 {
     Got(f64),
     Mismatch,
 }
 
-#[derive(Drop)]
+#[derive(Clone, Copy)]
 pub enum AsI64 {
     Got(i64),
     Mismatch,
 }
 
-#[derive(Drop)]
+#[derive(Clone, Copy)]
 pub enum AsU64 {
     Got(u64),
     Mismatch,
 }
 
 // The answer of `number_to_raw`. `number` gives document 01's number, `carried` what it carries.
-#[derive(Drop)]
+#[derive(Clone, Copy)]
 pub enum RawOf {
     Raw(u64),
     // 1

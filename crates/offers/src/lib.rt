@@ -12,7 +12,7 @@ pub use crate::kinds::offer_of;
 pub use crate::rows::{offer_at, offer_count};
 
 // The next value, as a caller has it.
-#[derive(Drop)]
+#[derive(Clone, Copy)]
 pub enum Offer {
     // There is none.
     Nothing,

@@ -19,7 +19,7 @@ pub const PAGE: usize = 262144;
 
 // What a call leaves, beside the payload's buffer and the page: what is known of the line; whether it
 // is whole and waits for its answer; how many bytes of the chunk are taken; the place after the text.
-#[derive(Drop)]
+#[derive(Clone, Copy)]
 pub struct Passed {
     pub line: Line,
     pub waits: bool,

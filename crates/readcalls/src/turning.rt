@@ -13,7 +13,7 @@ use crate::answers::put_reading;
 use reading::{Answer, Came, Decoded, Prepared};
 
 // What the turns came to, and the place after the readings' lines.
-#[derive(Drop)]
+#[derive(Clone, Copy)]
 pub(crate) struct Turned {
     pub(crate) to: usize,
     pub(crate) decoded: Decoded,

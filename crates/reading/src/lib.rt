@@ -31,7 +31,7 @@ pub use crate::turns::{came_to, next_field, start};
 pub const ROOM_ENOUGH: usize = tables::PAYLOAD_MAX * 8 + 1;
 
 // A field met, skipped ones too: `bits` bits from `start` on.
-#[derive(Drop)]
+#[derive(Clone, Copy)]
 pub struct Span {
     pub field: usize,
     pub element: Element,
@@ -40,7 +40,7 @@ pub struct Span {
 }
 
 // What was read of a field. Texts and bytes stand at their place in the working payload.
-#[derive(Drop)]
+#[derive(Clone, Copy)]
 pub struct Reading {
     pub field: usize,
     pub element: Element,
@@ -52,7 +52,7 @@ pub struct Reading {
 }
 
 // How far a walk has come: its cursor, the readings made, the raw of each set's counter.
-#[derive(Drop)]
+#[derive(Clone, Copy)]
 pub struct Progress {
     pub at: BitPos,
     pub made: usize,
@@ -60,14 +60,14 @@ pub struct Progress {
 }
 
 // A walk between two turns.
-#[derive(Drop)]
+#[derive(Clone, Copy)]
 pub struct Walk {
     pub spot: Spot,
     pub progress: Progress,
 }
 
 // What one turn came to.
-#[derive(Drop)]
+#[derive(Clone, Copy)]
 pub enum Answer {
     Met(Reading),
     Skipped(Span),
@@ -79,28 +79,28 @@ pub enum Answer {
 }
 
 // The answer of `next_field`: an enum cannot hold the counters, so the walk stands beside it.
-#[derive(Drop)]
+#[derive(Clone, Copy)]
 pub struct Next {
     pub answer: Answer,
     pub walk: Walk,
 }
 
 // The answer of `prepare`.
-#[derive(Drop)]
+#[derive(Clone, Copy)]
 pub enum Prepared {
     Ready,
     Refused(DecodeRefusal),
 }
 
 // The answer of `repeating_group_count`.
-#[derive(Drop)]
+#[derive(Clone, Copy)]
 pub enum GroupCount {
     Count(usize),
     Refused(DecodeRefusal),
 }
 
 // The answer of `for_each_field`, with the number of readings made.
-#[derive(Drop)]
+#[derive(Clone, Copy)]
 pub enum Decoded {
     Ended {
         end: BitPos,
@@ -113,7 +113,7 @@ pub enum Decoded {
 }
 
 // What a decode has come to with a turn: `Decoded` only where that was the walk's last.
-#[derive(Drop)]
+#[derive(Clone, Copy)]
 pub enum Came {
     On,
     To(Decoded),

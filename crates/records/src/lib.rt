@@ -20,7 +20,7 @@ pub use crate::pgns::decode_pgn_into;
 pub use crate::readings::{bytes_in, element_word, raw_mark, raw_word, value_word};
 
 // The answer of `decode_pgn_into`.
-#[derive(Drop)]
+#[derive(Clone, Copy)]
 pub enum ByPgn {
     // No table of this PGN is built in.
     Unknown,
@@ -28,7 +28,7 @@ pub enum ByPgn {
 }
 
 // What was done at a field.
-#[derive(Drop)]
+#[derive(Clone, Copy)]
 pub(crate) enum Quick {
     // A number: its bits, and its raw.
     Took { bits: usize, raw: u64 },
@@ -40,7 +40,7 @@ pub(crate) enum Quick {
 
 // Where a stretch of fields ended: the field after it, the bit, the readings made, and the raw that its
 // last field still has to be noted with.
-#[derive(Drop)]
+#[derive(Clone, Copy)]
 pub(crate) struct Stretch {
     field: usize,
     at: usize,

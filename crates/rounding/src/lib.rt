@@ -23,7 +23,7 @@ pub use crate::patterns::{bits_of_f32, bits_of_f64, f32_of_bits, f64_of_bits};
 pub use crate::truncation::{half_away, truncated_bits};
 
 // A float without its fraction.
-#[derive(Drop)]
+#[derive(Clone, Copy)]
 pub enum Whole {
     // A NaN, an infinity, or a magnitude of 2^64 or more.
     TooBig,

@@ -15,7 +15,7 @@ mod bytes;
 
 // A reading. C's fields in C's order: eight numbers of 64 bits, the fifth of which is eight bytes.
 #[repr(C)]
-#[derive(Drop)]
+#[derive(Clone, Copy)]
 pub struct Record {
     pub field: u64,
     pub element: u64,

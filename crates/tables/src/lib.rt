@@ -30,7 +30,7 @@ pub const PAYLOAD_MAX: usize = 223;
 
 // A run of fields that is repeated: `size` fields from `start` on, as often as the field `counter`
 // says, at most `maximum` times.
-#[derive(Drop)]
+#[derive(Clone, Copy)]
 pub struct RepeatingFieldSet {
     pub start: usize,
     pub size: usize,
@@ -39,7 +39,7 @@ pub struct RepeatingFieldSet {
 }
 
 // The rules, by document 01's letters.
-#[derive(Drop)]
+#[derive(Clone, Copy)]
 pub enum TableRule {
     A,
     B,
@@ -52,21 +52,21 @@ pub enum TableRule {
 }
 
 // The answer of `check`: refusal 8 names the rule and the field or the set, 0 for a.
-#[derive(Drop)]
+#[derive(Clone, Copy)]
 pub enum Checked {
     Accepted,
     Refused { rule: TableRule, index: usize },
 }
 
 // The lowest index that breaks a rule.
-#[derive(Drop)]
+#[derive(Clone, Copy)]
 pub(crate) enum Found {
     At(usize),
     Nothing,
 }
 
 // The kinds, grouped by what the rules say of them.
-#[derive(Drop)]
+#[derive(Clone, Copy)]
 pub(crate) enum KindClass {
     // Number, Lookup, IndirectLookup, Pgn, IsoName.
     Numeric,

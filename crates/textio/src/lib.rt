@@ -12,7 +12,7 @@ pub use crate::chunks::{fetch, start, store};
 // Where a program stands with its input and output: which part of the chunk is not taken yet; whether a
 // line waits, whose answer has found no room; whether the input so far ends within a line; whether it has
 // ended; `more` is false once there is no more to do, or something has failed.
-#[derive(Drop)]
+#[derive(Clone, Copy)]
 pub struct Io {
     pub from: usize,
     pub to: usize,

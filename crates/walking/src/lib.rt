@@ -11,14 +11,14 @@ pub use crate::looks::look_at;
 pub use crate::places::place_at;
 
 // Which element of its set a field stands in.
-#[derive(Drop)]
+#[derive(Clone, Copy)]
 pub enum Element {
     Outside,
     At(usize),
 }
 
 // Where a field stands: it starts set k, is a later field of a set, or is in none.
-#[derive(Drop)]
+#[derive(Clone, Copy)]
 pub enum Place {
     Starts(usize),
     Inside,
@@ -26,7 +26,7 @@ pub enum Place {
 }
 
 // Where a walk stands: at a field, or at a field of an element of a set, which has `count` elements.
-#[derive(Drop)]
+#[derive(Clone, Copy)]
 pub enum Spot {
     Field(usize),
     Within {
@@ -38,7 +38,7 @@ pub enum Spot {
 }
 
 // What a walk does next, from the spot where it stands.
-#[derive(Drop)]
+#[derive(Clone, Copy)]
 pub enum Look {
     // Nothing: it is past the last field.
     End,

@@ -16,7 +16,7 @@ mod weigh;
 pub use crate::weigh::{weigh_field, weigh_gap};
 
 // The refusals of an encode. `number` gives document 01's number, `carried` what it carries.
-#[derive(Drop)]
+#[derive(Clone, Copy)]
 pub enum EncodeRefusal {
     // 1, 2 and 3 (and 6, of skipped bits in a buffer that no encode lets through): what the bit call
     // would refuse, and at which field.
@@ -58,7 +58,7 @@ pub enum EncodeRefusal {
 }
 
 // What stands around a text.
-#[derive(Drop)]
+#[derive(Clone, Copy)]
 pub enum Lead {
     // Nothing: a StringFix or a Binary.
     Bare,
@@ -71,7 +71,7 @@ pub enum Lead {
 }
 
 // The answer of `weigh_field`.
-#[derive(Drop)]
+#[derive(Clone, Copy)]
 pub enum Weighed {
     Number {
         bits: BitPos,

@@ -29,7 +29,7 @@ pub use crate::ink::write_field;
 pub use crate::strokes::{start, weigh_next, write_next};
 
 // How far a walk has come: its cursor, the values used, the raw of each set's counter.
-#[derive(Drop)]
+#[derive(Clone, Copy)]
 pub struct Pen {
     pub at: BitPos,
     pub used: usize,
@@ -37,14 +37,14 @@ pub struct Pen {
 }
 
 // A walk between two turns.
-#[derive(Drop)]
+#[derive(Clone, Copy)]
 pub struct Draft {
     pub spot: Spot,
     pub pen: Pen,
 }
 
 // What one turn came to.
-#[derive(Drop)]
+#[derive(Clone, Copy)]
 pub enum Stroke {
     // The offered value is written.
     Wrote(Span),
@@ -58,28 +58,28 @@ pub enum Stroke {
 }
 
 // The answer of `write_next`: an enum cannot hold the counters, so the walk stands beside it.
-#[derive(Drop)]
+#[derive(Clone, Copy)]
 pub struct Stroked {
     pub stroke: Stroke,
     pub draft: Draft,
 }
 
 // The answer of `weigh_next`: what the turn comes to, and what it puts at the bit where the pen stood.
-#[derive(Drop)]
+#[derive(Clone, Copy)]
 pub struct Weighing {
     pub stroked: Stroked,
     pub content: Weighed,
 }
 
 // The answer of `begin`.
-#[derive(Drop)]
+#[derive(Clone, Copy)]
 pub enum Begun {
     Ready,
     Refused(EncodeRefusal),
 }
 
 // The answer of an encode: the bytes used.
-#[derive(Drop)]
+#[derive(Clone, Copy)]
 pub enum Encoded {
     Ended(ByteCount),
     Refused(EncodeRefusal),
