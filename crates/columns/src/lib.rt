@@ -4,6 +4,8 @@
 // Promise: every call takes any bytes and any numbers, and answers as specs/ says. What is not of its
 // form is not good, and then a lent buffer stays as it was. What is printed is read back:
 // proofs/Back.antt. No call has a `requires`, and nothing is assumed. Limit: numbers have 64 bits.
+#![tactic(auto)]
+
 mod figures;
 mod names;
 mod parts;

@@ -1,0 +1,68 @@
+-- The invariant: n values are stored, and the parts from `from` on have the others.
+use mathlib.Core.Path.{◌≡◌, sym, ap, ap₂, ◌∙◌}
+use mathlib.Core.List.{List, [], ◌∷◌}
+use Prim.Native.Nat.{ℕ, ◌+◌, ◌≤◌, ◌<◌}
+use native.Mathlib.Omega.{arith}
+use lib.ListN.{length, drop, set, length-drop, length-map}
+use Rattle.columns.specs.declared.Number.{Number}
+use Rattle.columns.specs.Parts.{parts_of}
+use Rattle.columns.specs.Numbers.{hex_in}
+use Rattle.columns.specs.Runs.{values_of}
+use Rattle.columns.proofs.Lists.{front, front_length, front-more, front-all}
+use Rattle.columns.proofs.Cuts.{part-last, part-more, part-first}
+use Rattle.columns.proofs.Filling.{value-next}
+use Rattle.columns.proofs.runs.store_numbers.Goals as goal
+
+-- the value at hand, and room for it
+pub record Here (vs old words rest : List ℕ) (n v : ℕ) : Type 0 where
+  pub among : n < length vs
+  pub room : n < length old
+  pub size : length words ≡ length old
+  pub others : drop (n + 1) vs ≡ rest
+  pub stored : set words n v ≡ front (n + 1) vs old
+
+here : (ps rest : List (List ℕ)) (w old words : List ℕ) (n v : ℕ) → length ps ≤ length old → drop n (values_of ps) ≡ values_of (w ∷ rest) → words ≡ front n (values_of ps) old
+    → v ≡ (hex_in w).value → Here (values_of ps) old words (values_of rest) n v
+here ps rest w old words n v r d f h =
+    let vs = values_of ps in
+    let x = value-next vs n (hex_in w).value (values_of rest) d in
+    let room : n < length old = omega (arith, x.0, length-map ps (λ (y : List ℕ). (hex_in y).value), r) in
+    record {
+      among = x.0;
+      room = room;
+      size = ap length f ∙ front_length n vs old (omega (arith, x.0)) (omega (arith, room));
+      others = x.1.1;
+      stored = ap₂ (λ (ws : List ℕ) (y : ℕ). set ws n y) f (h ∙ sym x.1.0) ∙ front-more n vs old x.0 room;
+    }
+
+pub offset_bounds-words-n : goal.offset_bounds-words-n
+offset_bounds-words-n c =
+    let f = part-first c.args.mark c.args.s.now c.loop-mark.from c.part_end-end.result c.loop-mark.invariant.0 c.part_end-end.ensures.value c.part_end-end.ensures.upper_bound in
+    let g = here (parts_of c.args.mark c.args.s.now) f.0 _ c.args.words.now c.loop-mark.words c.loop-mark.n c.hex-word.result.value c.requires (c.loop-mark.invariant.1.0 ∙ ap values_of f.1) c.loop-mark.invariant.1.1 (ap (λ (y : Number). y.value) c.hex-word.ensures ∙ ap (λ (y : List ℕ). (hex_in y).value) c.part.ensures) in
+    omega (arith, g.room, g.size, c.well_formed)
+
+pub bounds-words-n : goal.bounds-words-n
+bounds-words-n c =
+    let f = part-first c.args.mark c.args.s.now c.loop-mark.from c.part_end-end.result c.loop-mark.invariant.0 c.part_end-end.ensures.value c.part_end-end.ensures.upper_bound in
+    let g = here (parts_of c.args.mark c.args.s.now) f.0 _ c.args.words.now c.loop-mark.words c.loop-mark.n c.hex-word.result.value c.requires (c.loop-mark.invariant.1.0 ∙ ap values_of f.1) c.loop-mark.invariant.1.1 (ap (λ (y : Number). y.value) c.hex-word.ensures ∙ ap (λ (y : List ℕ). (hex_in y).value) c.part.ensures) in
+    omega (arith, g.room, g.size)
+
+pub overflow_add-n : goal.overflow_add-n
+overflow_add-n c =
+    let f = part-first c.args.mark c.args.s.now c.loop-mark.from c.part_end-end.result c.loop-mark.invariant.0 c.part_end-end.ensures.value c.part_end-end.ensures.upper_bound in
+    let g = here (parts_of c.args.mark c.args.s.now) f.0 _ c.args.words.now c.loop-mark.words c.loop-mark.n c.hex-word.result.value c.requires (c.loop-mark.invariant.1.0 ∙ ap values_of f.1) c.loop-mark.invariant.1.1 (ap (λ (y : Number). y.value) c.hex-word.ensures ∙ ap (λ (y : List ℕ). (hex_in y).value) c.part.ensures) in
+    omega (arith, g.room, g.size, c.well_formed)
+
+pub returns-then-end-s : goal.returns-then-end-s
+returns-then-end-s c =
+    let vs = values_of (parts_of c.args.mark c.args.s.now) in
+    let f = part-last c.args.mark c.args.s.now c.loop-mark.from c.part_end-end.result c.loop-mark.invariant.0 c.part_end-end.ensures.value c.if-end-s.true in
+    let g = here (parts_of c.args.mark c.args.s.now) [] _ c.args.words.now c.loop-mark.words c.loop-mark.n c.hex-word.result.value c.requires (c.loop-mark.invariant.1.0 ∙ ap values_of f) c.loop-mark.invariant.1.1 (ap (λ (y : Number). y.value) c.hex-word.ensures ∙ ap (λ (y : List ℕ). (hex_in y).value) c.part.ensures) in
+    g.stored ∙ front-all (c.loop-mark.n + 1) vs c.args.words.now (omega (arith, g.among, ap length g.others, length-drop (c.loop-mark.n + 1) vs))
+
+pub loop-mark-preserved : goal.loop-mark-preserved
+loop-mark-preserved c =
+    let far : c.part_end-end.result < length c.args.s.now = omega (arith, c.if-end-s.false, c.part_end-end.ensures.upper_bound) in
+    let f = part-more c.args.mark c.args.s.now c.loop-mark.from c.part_end-end.result c.loop-mark.invariant.0 c.part_end-end.ensures.value far in
+    let g = here (parts_of c.args.mark c.args.s.now) _ _ c.args.words.now c.loop-mark.words c.loop-mark.n c.hex-word.result.value c.requires (c.loop-mark.invariant.1.0 ∙ ap values_of f) c.loop-mark.invariant.1.1 (ap (λ (y : Number). y.value) c.hex-word.ensures ∙ ap (λ (y : List ℕ). (hex_in y).value) c.part.ensures) in
+    (omega arith, (g.others, g.stored))
