@@ -3,10 +3,12 @@
 // Promise: each call is the call of `bits` of the same name at the reader's slice and cursor, with its answer. The reader
 // keeps its slice. Its cursor is the moved one, or where it was if the call was refused. No call has a `requires`, and
 // nothing is assumed.
+#![tactic(auto)]
+
 ghost use Rattle.std.specs.Prelude.{◌≡◌, length};
 ghost use Rattle.bits.specs.Calls.{cursor_at, remaining_of, read_u64_of, read_u32_of, read_u16_of, read_u8_of, advance_of, read_slice_of};
 ghost use Rattle.readers.specs.Reader.{at_cursor, after_u64_lem, after_u32_lem, after_u16_lem, after_u8_lem, after_moved_lem, after_slice_lem};
-ghost use Rattle.readers.specs.Contracts.{Reads};
+ghost use Rattle.readers.specs.Clauses.{Reads};
 
 use bits::{BitPos, ByteCount, Cursor, Moved, ReadSlice, ReadU8, ReadU16, ReadU32, ReadU64};
 
