@@ -3,9 +3,11 @@
 // Promise: each call is the call of `bits` of the same name at the writer's slice and cursor, with its answer. `advance`
 // is its `write_advance`. The writer keeps its slice, with the bytes that the call of `bits` leaves in it. Its cursor is
 // the moved one, or where it was if the call was refused. No call has a `requires`, and nothing is assumed.
+#![tactic(auto)]
+
 ghost use Rattle.std.specs.Prelude.{◌≡◌};
 ghost use Rattle.bits.specs.Calls.{cursor_at};
-ghost use Rattle.writers.specs.Contracts.{Writes, Advances, WritesSlice, FirstBits};
+ghost use Rattle.writers.specs.Clauses.{Writes, Advances, WritesSlice, FirstBits};
 
 use bits::{BitPos, Cursor, Moved};
 
