@@ -3,7 +3,7 @@
 use mathlib.Core.Path.{◌≡◌, sym, ap, ◌∙◌, subst}
 use mathlib.Core.List.{List, [], ◌∷◌}
 use seplogic.Ra.Ura.{Ura}
-use mir.Syntax.{Name, Place, Opd as Operand, Body, seq, call}
+use mir.Syntax.{Callee, Place, Opd as Operand, Body, seq, call}
 use mir.Val.{Val}
 use base.Logic.{ent, emp, snd∗, ex_e, id⊢}
 use base.Fml.{ftrue}
@@ -32,7 +32,7 @@ pub record Answers : Type 2 where
   pub low : X.Denot → Val
   pub tells : Tells X (Is X) (λ r. low r ∷ [])
   pub answer : Denots (types_at params tt) → X.Denot
-  pub #name : Name
+  pub #name : Callee
 
 module _ (F : Answers) where
   abbrev pub answers-ended : Ended
@@ -83,7 +83,7 @@ pub record Asks : Type 2 where
   pub low : X.Denot → Val
   pub tells : Tells X (Is X) (λ r. low r ∷ [])
   pub answers : S.Denot → X.Denot
-  pub #name : Name
+  pub #name : Callee
 
 module _ (F : Asks) where
   abbrev one : Answers

@@ -1,3 +1,5 @@
+#![tactic(auto)]
+
 // What walks by hand of code that holds a lent slice have in common; there is no code here.
 //
 //     proofs/Lending    a lent slice is lent on for the time of a call, and is had again with what the call left in it
