@@ -1,16 +1,16 @@
 -- A chunk, call after call, on pages with room for every answer: more calls than there are bytes owed take all of it, and no line is left to wait. Each call
 -- that does not end the chunk puts a byte at the least. Assumes nothing.
-use mathlib.Core.Path.{◌≡◌, refl, sym, ap, ◌∙◌, subst}
+use mathlib.Core.Path.{◌≡◌, refl, sym, ap, ◌∙◌}
 use mathlib.Core.Bool.{Bool, true, false}
 use mathlib.Core.List.{List, [], ◌∷◌, ◌++◌, append-nil}
 use mathlib.Core.Logic.{◌⊎◌, inl, inr}
-use Prim.Native.Nat.{ℕ, ◌+◌, ◌≤◌, ◌<◌}
+use Prim.Native.Nat.{ℕ, ◌≤◌, ◌<◌}
 use native.Mathlib.Omega.{arith}
 use lib.ListN.{length, take, drop, length-append, length-take, take-append-drop}
 use lib.Seq.{drop-length}
 use Rattle.text.specs.Sheet.{sheet, lost}
 use Rattle.lines.specs.Machine.{Machine, Passed, passed, pass_from, pass_of, owes}
-use Rattle.lines.specs.Calls.{Call, called, held_of, waits_of, taken_of, page_after, place_after, taken, waits_after, Rests, Drains}
+use Rattle.lines.specs.Calls.{Call, called, held_of, waits_of, taken_of, taken, waits_after, Rests, Drains}
 use Rattle.lines.proofs.Conserved.{conserved}
 use Rattle.lines.proofs.Progress.{moves}
 

@@ -12,7 +12,7 @@ use Rattle.bits.specs.Bits.{pick}
 use Rattle.text.specs.Sheet.{Sheet, sheet, page_of, Puts}
 use Rattle.text.proofs.Sheets.{same}
 use Rattle.lines.specs.Machine.{Machine, Passed, passed, up_to_newline, fits, answered_or, pass_from, pass_of}
-use Rattle.lines.specs.Held.{nothing_held, line_in, held_after, buffer_after, Store, store, held}
+use Rattle.lines.specs.Held.{nothing_held, held_by, kept_by, line_in, held_after, buffer_after, Store, store, held}
 use Rattle.lines.specs.Passing.{passed_at, begun, took_of, line_after, answered_by}
 use Rattle.lines.specs.declared.Held.{Held}
 use Rattle.lines.specs.declared.Passed.{Passed as State}
@@ -94,7 +94,7 @@ module _ (input : List ℕ) where
 held-feds : (a : List ℕ → List ℕ) (h : Held) (line bs : List ℕ) → feds (held a) (store h line) bs ≡ store (held_after h line bs) (buffer_after h line bs)
 unfolding feds held_after buffer_after
 held-feds a h line [] = refl
-held-feds a h line (b ∷ bs) = held-feds a _ _ bs
+held-feds a h line (b ∷ bs) = held-feds a (held_by h line) (kept_by h line b) bs
 
 module _ {a : List ℕ → List ℕ} {input : List ℕ} {p₀ : State} {first old : List ℕ} where
   -- the rest of the chunk is taken: by whether a line ends in it

@@ -4,6 +4,8 @@
 // and a page leaves, and what it owes for all that it was fed; the theorems on any list of calls, on
 // any chunks and pages, are proofs/Stream.antt. The calls here hold a line as specs/Held.antt says: a
 // line that has more bytes than the buffer is handed on as an empty one. No call has a `requires`.
+#![tactic(auto)]
+
 mod holding;
 mod passing;
 

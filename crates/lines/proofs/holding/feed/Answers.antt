@@ -1,0 +1,17 @@
+-- The invariant, `Going`: what is held so far, with what is still to come, is what is held in the end. The measure
+-- is what is left of the piece.
+use Rattle.lines.proofs.Feeding.{at-newline, at-end, next, done, line-done}
+use Rattle.lines.proofs.holding.feed.Goals as goal
+
+pub returns-then-b-eq10 : goal.returns-then-b-eq10
+returns-then-b-eq10 c =
+    let stop = at-newline _ _ c.loop-i-test.true c.if-b-eq10.true in
+    (done c.loop-i.invariant stop, line-done c.loop-i.invariant stop)
+
+pub loop-i-preserved : goal.loop-i-preserved
+loop-i-preserved c = simp (c.hold-known.ensures.0, c.hold-known.ensures.1) (next c.loop-i.invariant c.loop-i-test.true c.if-b-eq10.false)
+
+pub returns : goal.returns
+returns c =
+    let stop = at-end _ _ c.loop-i-test.false in
+    (done c.loop-i.invariant stop, line-done c.loop-i.invariant stop)
