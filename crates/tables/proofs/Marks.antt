@@ -1,8 +1,8 @@
 -- "With it a mark, single or double": in an accepted table no field has a resolution without a mark, or a mark that is neither. Assumes nothing.
-use mathlib.Core.Path.{◌≡◌, refl, sym, ap, ap₂, ◌∙◌}
+use mathlib.Core.Path.{◌≡◌, refl, sym, ◌∙◌}
 use mathlib.Core.Bool.{Bool, true, false, ◌&&◌, false≢true}
 use mathlib.Core.List.{List}
-use Prim.Native.Nat.{ℕ, zero, suc, ◌+◌, ◌%◌, ◌^◌, ◌<◌}
+use Prim.Native.Nat.{ℕ, zero, suc, ◌+◌, ◌<◌}
 use native.Mathlib.Nat.{mod-lt}
 use native.Mathlib.Omega.{arith}
 use lib.Dec.{eqb, lit<}
@@ -10,8 +10,7 @@ use lib.Ieee.{le}
 use lib.ListN.{get_or}
 use borrow.Author.Tests.{eqb-true}
 use Rattle.bits.specs.Bits.{pick}
-use Rattle.descriptor.specs.Kinds.{broken, unmarked_of, resolution_of_lem}
-use Rattle.descriptor.specs.declared.Resolution.{Resolution}
+use Rattle.descriptor.specs.Kinds.{broken, resolution_of_lem}
 use Rattle.descriptor.specs.declared.Resolution.TheVariants.{Unscaled}
 use Rattle.tables.specs.declared.KindClass.{KindClass}
 use Rattle.tables.specs.declared.TableRule.TheVariants.{D}

@@ -4,6 +4,8 @@
 // are: accepted, or refusal 8 with the first rule that is broken, a to h, and the lowest index at
 // which it is. Nothing is asked of the words: one that is missing counts as 0. What an accepted table
 // keeps is stated once, as laws, in proofs/Accepted.antt.
+#![tactic(auto)]
+
 ghost use Rattle.std.specs.Prelude.{◌≡◌};
 ghost use Rattle.tables.specs.Check.{letter_of};
 
