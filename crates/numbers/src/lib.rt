@@ -4,6 +4,8 @@
 // a value that does not fit gets refusal 10, one of another kind 11, and a width that no number has 1.
 // No call has a `requires`. A float is a value of IEEE 754 as the logic has it, with one NaN; nothing
 // else is assumed.
+#![tactic(auto)]
+
 mod conversions;
 mod holding;
 mod quantizing;

@@ -1,0 +1,7 @@
+-- by the case of the cut.
+use mathlib.Core.Path.{sym, ◌∙◌}
+use Rattle.numbers.proofs.Limits.{cut_fits}
+use Rattle.numbers.proofs.quantizing.cut.Goals as goal
+
+pub returns-in-Fits : goal.returns-in-Fits
+returns-in-Fits c = c.nearly.ensures ∙ cut_fits c.args.n c.args.signed c.args.y _ _ (sym c.truncated_bits.ensures ∙ c.in-Fits.is)
