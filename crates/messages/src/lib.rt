@@ -6,6 +6,8 @@
 // of the function of its name says, and proofs/Accepted.antt computes that the table check accepts them.
 // None of the four has a length or a minimum. A constant can be lent only where it is named, so each
 // such caller has a match of its own from the message to its table, held to `words_of`.
+#![tactic(auto)]
+
 ghost use Rattle.std.specs.Prelude.{◌≡◌};
 ghost use Rattle.messages.specs.Tables.{words129025, words129026, words129029, words130900};
 
