@@ -35,26 +35,44 @@
 //
 // What is answered is specs/Answers.antt; that it does not depend on the chunks, and that no answer
 // waits for room forever, is proofs/Stream.antt. Here is only read and written.
+#![tactic(auto)]
+
 mod answers;
 mod decimals;
 mod encodes;
 mod entries;
 mod orders;
 
+use std::io::{Read, Write};
+use textio::Streams;
+
 const NAME: [u8; 7] = *b"compose";
 
-fn main() {
-    let mut input = io::large_buffer();
+fn main(rt: HostRuntime) {
+    let mut streams = Streams {
+        input: rt.stdin(),
+        output: rt.stdout(),
+        errors: rt.stderr(),
+    };
+    let mut input = [0u8; textio::BUFFER];
     let mut line = [0u8; 8192];
     let mut values = [0u8; orders::RECORDS_MAX];
     let mut lent = [0u8; orders::TEXTS_MAX];
-    let mut page = io::large_buffer();
-    run(&mut input, &mut line, &mut values, &mut lent, &mut page);
+    let mut page = [0u8; textio::BUFFER];
+    run(
+        &mut streams,
+        &mut input,
+        &mut line,
+        &mut values,
+        &mut lent,
+        &mut page,
+    );
 }
 
 // A proved loop has to end, and nothing says that the input does. So the loop counts its turns down,
 // from a number that no run uses up.
-fn run(
+fn run<R: Read, W: Write, E: Write>(
+    streams: &mut Streams<R, W, E>,
     input: &mut [u8],
     line: &mut [u8],
     values: &mut [u8; orders::RECORDS_MAX],
@@ -66,7 +84,7 @@ fn run(
     let mut held = lines::nothing();
     while turns > 0 && at.more {
         turns -= 1;
-        at = textio::fetch(&NAME, input, at);
+        at = textio::fetch(&NAME, streams, input, at);
         let from = at.from;
         let to = at.to;
         let p = orders::pass(
@@ -80,6 +98,6 @@ fn run(
             0,
         );
         held = p.held;
-        at = textio::store(&NAME, page, p.to, p.taken, p.waits, at);
+        at = textio::store(&NAME, streams, page, p.to, p.taken, p.waits, at);
     }
 }

@@ -18,32 +18,47 @@
 //
 // What is answered is specs/Answers.antt; that it does not depend on the chunks, and that no answer
 // waits for room forever, is proofs/Stream.antt. Here is only read and written.
+#![tactic(auto)]
+
 mod calls;
 mod fields;
 mod replies;
 
+use std::io::{Read, Write};
+use textio::Streams;
+
 const NAME: [u8; 11] = *b"numbercalls";
 
-fn main() {
-    let mut input = io::large_buffer();
+fn main(rt: HostRuntime) {
+    let mut streams = Streams {
+        input: rt.stdin(),
+        output: rt.stdout(),
+        errors: rt.stderr(),
+    };
+    let mut input = [0u8; textio::BUFFER];
     let mut line = [0u8; 1024];
-    let mut page = io::large_buffer();
-    run(&mut input, &mut line, &mut page);
+    let mut page = [0u8; textio::BUFFER];
+    run(&mut streams, &mut input, &mut line, &mut page);
 }
 
 // A proved loop has to end, and nothing says that the input does. So the loop counts its turns down,
 // from a number that no run uses up.
-fn run(input: &mut [u8], line: &mut [u8], page: &mut [u8]) {
+fn run<R: Read, W: Write, E: Write>(
+    streams: &mut Streams<R, W, E>,
+    input: &mut [u8],
+    line: &mut [u8],
+    page: &mut [u8],
+) {
     let mut turns = u64::MAX;
     let mut at = textio::start();
     let mut held = lines::nothing();
     while turns > 0 && at.more {
         turns -= 1;
-        at = textio::fetch(&NAME, input, at);
+        at = textio::fetch(&NAME, streams, input, at);
         let from = at.from;
         let to = at.to;
         let p = replies::pass(held, at.waits, line, &input[from..to], page, 0);
         held = p.held;
-        at = textio::store(&NAME, page, p.to, p.taken, p.waits, at);
+        at = textio::store(&NAME, streams, page, p.to, p.taken, p.waits, at);
     }
 }

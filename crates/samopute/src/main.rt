@@ -14,30 +14,44 @@
 //
 // What is printed, and that it does not depend on the chunks, is `printing`'s: here is only read and
 // written.
+#![tactic(auto)]
+
+use std::io::{Read, Write};
 use tables::PAYLOAD_MAX;
+use textio::Streams;
 
 const NAME: [u8; 8] = *b"samopute";
 
-fn main() {
-    let mut input = io::large_buffer();
+fn main(rt: HostRuntime) {
+    let mut streams = Streams {
+        input: rt.stdin(),
+        output: rt.stdout(),
+        errors: rt.stderr(),
+    };
+    let mut input = [0u8; textio::BUFFER];
     let mut payload = [0u8; PAYLOAD_MAX];
     let mut page = [0u8; printing::PAGE];
-    run(&mut input, &mut payload, &mut page);
+    run(&mut streams, &mut input, &mut payload, &mut page);
 }
 
 // A proved loop has to end, and nothing says that the input does. So the loop counts its turns down,
 // from a number that no run uses up.
-fn run(input: &mut [u8], payload: &mut [u8], page: &mut [u8]) {
+fn run<R: Read, W: Write, E: Write>(
+    streams: &mut Streams<R, W, E>,
+    input: &mut [u8],
+    payload: &mut [u8],
+    page: &mut [u8],
+) {
     let mut turns = u64::MAX;
     let mut at = textio::start();
     let mut line = frames::empty_line();
     while turns > 0 && at.more {
         turns -= 1;
-        at = textio::fetch(&NAME, input, at);
+        at = textio::fetch(&NAME, streams, input, at);
         let from = at.from;
         let to = at.to;
         let p = printing::pass(line, at.waits, payload, &input[from..to], page, 0);
         line = p.line;
-        at = textio::store(&NAME, page, p.to, p.taken, p.waits, at);
+        at = textio::store(&NAME, streams, page, p.to, p.taken, p.waits, at);
     }
 }

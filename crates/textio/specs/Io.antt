@@ -1,5 +1,5 @@
--- Where a program stands with its input and output: what is handed on from call to call. What is read and written no contract can say.
-use Rattle.std.specs.Prelude.{◌≡◌, ℕ, ◌+◌, ◌-◌, ◌<◌, List, Bool, true, false, not, ◌||◌, ◌&&◌, ◌⊎◌, eqb, leb, ltb, length, get_or}
+-- Where a program stands with its input and output: what is handed on from call to call. What is read and written is said where the bytes of the reader and the writer are known.
+use Rattle.std.specs.Prelude.{◌≡◌, ℕ, ◌+◌, ◌-◌, ◌<◌, List, Bool, true, false, not, ◌||◌, ◌&&◌, ◌⊎◌, [], if◌then◌else◌, take, eqb, leb, ltb, length, get_or}
 use Rattle.textio.specs.declared.Io.{Io}
 
 -- nothing is read yet
@@ -36,6 +36,14 @@ pub record Fetches (r : Io) (new : List ℕ) (at : Io) (old : List ℕ) : Type 0
   pub due : due_in at (length old) ≡ true → (r ≡ at) × (new ≡ old)
   pub fresh : due_in at (length old) ≡ false → Reads r new at
   pub over : due_in at (length old) ≡ false → at.ended ≡ true → r ≡ closed_io at
+
+-- the bytes of a chunk that was read; there is none where the input has ended or fails
+abbrev pub chunk_of : Io → List ℕ → List ℕ
+chunk_of r chunk = if r.ended then [] else take r.to chunk
+
+-- the bytes that `fetch` reads: none while a call is due
+abbrev pub fetched : Bool → Io → List ℕ → List ℕ
+fetched due r chunk = if due then [] else chunk_of r chunk
 
 -- `store`: the next call goes on where this one, which took so many bytes, has ended, or there is none
 abbrev pub Stores : Io → Io → ℕ → Bool → Type 0

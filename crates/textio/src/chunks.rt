@@ -1,9 +1,10 @@
 // Reads and writes. `name` is the program's, for what is said on standard error.
-ghost use Rattle.std.specs.Prelude.{◌≤◌, ◌≡◌, length};
-ghost use Rattle.textio.specs.Io.{start_io, closed_io, due_in, moved_to, Reads, Fetches, Stores};
+ghost use Rattle.std.specs.Prelude.{◌≤◌, ◌≡◌, true, false, length, take};
+ghost use Rattle.std.specs.Io.KnownBytes.{Appends, Consumes, IsAtEnd};
+ghost use Rattle.textio.specs.Io.{start_io, closed_io, due_in, moved_to, fetched, chunk_of, Reads, Fetches, Stores};
 
-use crate::Io;
-use libc::{STDERR_FILENO, STDIN_FILENO, STDOUT_FILENO};
+use crate::{Io, Streams};
+use std::io::{Cursor, Error, Read, Write};
 
 pub fn start() -> Io
     ensures { result ≡ start_io }
@@ -40,9 +41,18 @@ fn is_due(at: Io, size: usize) -> bool
 }
 
 // What is left of the chunk, or the next one: it stands in `input` between `from` and `to`.
-pub fn fetch(name: &[u8], input: &mut [u8], at: Io) -> Io
+pub fn fetch<R: Read, W: Write, E: Write>(
+    name: &[u8],
+    streams: &mut Streams<R, W, E>,
+    input: &mut [u8],
+    at: Io,
+) -> Io
     ensures fetches { Fetches result input.new at input.old }
     ensures from_le_to { (result.from ≤ result.to) × (result.to ≤ length input.old) }
+    ensures taken { Consumes (R.remaining streams.old.input) (R.remaining streams.new.input)
+        (fetched (due_in at (length input.old)) result input.new) }
+    ensures at_end { due_in at (length input.old) ≡ false → result.more ≡ true →
+        result.ended ≡ true → IsAtEnd (R.remaining streams.new.input) }
 {
     if is_due(at, input.len()) {
         return at;
@@ -50,20 +60,30 @@ pub fn fetch(name: &[u8], input: &mut [u8], at: Io) -> Io
     if at.ended {
         return closed(at);
     }
-    read(name, input, at)
+    read(name, streams, input, at)
 }
 
 // The next chunk, from the start of the buffer.
-fn read(name: &[u8], input: &mut [u8], at: Io) -> Io
+fn read<R: Read, W: Write, E: Write>(
+    name: &[u8],
+    streams: &mut Streams<R, W, E>,
+    input: &mut [u8],
+    at: Io,
+) -> Io
     ensures reads { Reads result input.new at }
     ensures from_bound { (result.from ≤ 0) × (result.to ≤ length input.old) }
+    ensures taken { Consumes (R.remaining streams.old.input) (R.remaining streams.new.input)
+        (chunk_of result input.new) }
+    ensures at_end { result.more ≡ true → result.ended ≡ true →
+        IsAtEnd (R.remaining streams.new.input) }
 {
-    let got = libc::read(STDIN_FILENO, &mut *input);
-    let n = io::count(got, input);
-    if got < 0 {
-        tell(name, b": standard input");
-        return closed(at);
-    }
+    let n = match streams.input.read(input) {
+        Ok(n) => n,
+        Err(error) => {
+            tell(&mut streams.errors, name, b": standard input: ", &error);
+            return closed(at);
+        }
+    };
     if n == 0 {
         return last(input, at);
     }
@@ -80,6 +100,7 @@ fn read(name: &[u8], input: &mut [u8], at: Io) -> Io
 // The input has ended: a line with no newline gets one.
 fn last(input: &mut [u8], at: Io) -> Io
     ensures reads { Reads result input.new at }
+    ensures ended { result.ended ≡ true }
     ensures from_bound { (result.from ≤ 0) × (result.to ≤ length input.old) }
 {
     if !at.inside {
@@ -116,8 +137,18 @@ fn moved(at: Io, from: usize, waits: bool) -> Io
 // Writes the first n bytes of a page, the text of a call that took so many bytes of the chunk and left
 // a line that waits, or none. Where that fails nothing follows, as it would stand after a gap. A call
 // that has moved nothing has found no room on an empty page, and would find none again.
-pub fn store(name: &[u8], page: &[u8], n: usize, taken: usize, waits: bool, at: Io) -> Io
-    ensures { Stores result at taken waits }
+pub fn store<R: Read, W: Write, E: Write>(
+    name: &[u8],
+    streams: &mut Streams<R, W, E>,
+    page: &[u8],
+    n: usize,
+    taken: usize,
+    waits: bool,
+    at: Io,
+) -> Io
+    ensures stores { Stores result at taken waits }
+    ensures written { result.more ≡ true →
+        Appends (W.contents streams.old.output) (W.contents streams.new.output) (take n page.now) }
 {
     let from = at.from;
     let to = at.to;
@@ -128,19 +159,45 @@ pub fn store(name: &[u8], page: &[u8], n: usize, taken: usize, waits: bool, at: 
         return closed(at);
     }
     if n == 0 && taken == 0 && (waits || from < to) {
-        io::write_all(STDERR_FILENO, name);
-        io::write_all(STDERR_FILENO, b": an answer has no room\n");
+        say(&mut streams.errors, name);
+        say(&mut streams.errors, b": an answer has no room\n");
         return closed(at);
     }
-    if io::write_all(STDOUT_FILENO, &page[0..n]) {
-        return moved(at, from + taken, waits);
+    match streams.output.write_all(&page[0..n]) {
+        Ok(()) => {
+            return moved(at, from + taken, waits);
+        }
+        Err(error) => {
+            tell(&mut streams.errors, name, b": standard output: ", &error);
+        }
     }
-    tell(name, b": standard output");
     closed(at)
 }
 
-// A line on standard error. A write that succeeds leaves errno as it was.
-fn tell(name: &[u8], what: &[u8]) {
-    io::write_all(STDERR_FILENO, name);
-    os::fail(what);
+// A line on standard error: what failed, and why.
+fn tell<E: Write>(errors: &mut E, name: &[u8], what: &[u8], error: &Error) {
+    let mut text = Cursor::new([0u8; 256]);
+    let _ = write!(text, "{error}");
+    let text = text.into_inner();
+    say(errors, name);
+    say(errors, what);
+    say(errors, &text[..reason(&text)]);
+    say(errors, b"\n");
+}
+
+// Standard error is the last place to say something: where it fails there is no other.
+fn say<E: Write>(errors: &mut E, text: &[u8]) {
+    let _ = errors.write_all(text);
+}
+
+// How many bytes of an error's text, which 0s follow, say the reason: the error's number stands behind it.
+fn reason(text: &[u8]) -> usize
+    ensures { result ≤ length text.now }
+{
+    for i in 0..text.len() {
+        if text[i] == 0 || text[i..].starts_with(b" (os error ") {
+            return i;
+        }
+    }
+    text.len()
 }

@@ -4,10 +4,25 @@
 // a line that has found no room, as no read comes before the call that puts it (specs/Io.antt). At the
 // end of the input a line that lacks its newline gets one. Where the input or the output fails it is said
 // on standard error, and the program ends; a line that a failed read cuts short is not answered.
-// No contract can say what is read or written: a main reads, calls and writes, and holds nothing else.
+// Where a reader's bytes and a writer's are known, a contract says what is read and written: the input's
+// next bytes, each once, and the page, if the program goes on. Of standard input and output nothing is
+// known: a main reads, calls and writes, and holds nothing else.
+#![tactic(auto)]
+
 mod chunks;
 
 pub use crate::chunks::{fetch, start, store};
+
+// What a program reads from, writes to and says on standard error what fails.
+#[derive(Drop)]
+pub struct Streams<R, W, E> {
+    pub input: R,
+    pub output: W,
+    pub errors: E,
+}
+
+// The bytes of a chunk of the input, at the most, and of most programs' pages.
+pub const BUFFER: usize = 65536;
 
 // Where a program stands with its input and output: which part of the chunk is not taken yet; whether a
 // line waits, whose answer has found no room; whether the input so far ends within a line; whether it has
