@@ -1,13 +1,12 @@
 -- By an accepted table a field that is a number on the wire holds one, of 1 to 64 bits: no value gets 1 there, and none 11 for the field's sake.
 -- Assumes nothing.
 use mathlib.Core.Path.{◌≡◌, refl}
-use mathlib.Core.Bool.{Bool, true, false, not, ◌||◌, false≢true}
+use mathlib.Core.Bool.{Bool, true, false, not, false≢true}
 use Prim.Native.Nat.{ℕ, ◌%◌, ◌<◌}
 use lib.Dec.{eqb}
 use Rattle.bits.specs.Bits.{pick}
 use Rattle.descriptor.specs.declared.FieldKind.{FieldKind}
 use Rattle.descriptor.specs.declared.FieldKind.TheVariants as kind
-use Rattle.descriptor.specs.declared.PgnValue.{PgnValue}
 use Rattle.numbers.specs.declared.Holds.TheVariants as holds
 use Rattle.numbers.specs.Holds.{is_numeric_lem, holds_of}
 use Rattle.numbers.proofs.Numeric as numbers

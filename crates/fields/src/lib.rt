@@ -5,6 +5,8 @@
 // says: the bits that the field takes, its raw and its value, or the refusal, with document 01's
 // number and values. A payload is seen only through its length and the bits at a place
 // (specs/Payload.antt). No public call has a `requires`.
+#![tactic(auto)]
+
 use bits::{BitPos, BitRefusal, ByteCount};
 use descriptor::PgnValue;
 use tables::TableRule;
