@@ -4,6 +4,8 @@
 // Promise: specs/Walk.antt says which fields are met and in which order, over any table and any rule
 // for one field; proofs/Machine.antt that the walk by single turns, from spot to spot, meets the same
 // and comes to the same end. The code here takes any words.
+#![tactic(auto)]
+
 mod looks;
 mod places;
 
