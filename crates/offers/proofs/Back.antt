@@ -53,6 +53,7 @@ handed-back (I64 z) h = ap (λ (y : ℤ). Value (I64 y)) (signed_back z h)
 handed-back (I32 z) h = within-back 31 I32 z (lit≤ tt) h
 handed-back (I16 z) h = within-back 15 I16 z (lit≤ tt) h
 handed-back (I8 z) h = within-back 7 I8 z (lit≤ tt) h
+handed-back (Bytes _) h = elim h [ ]
 handed-back (F64 x) h = ap (λ y. Value (F64 y)) (of_bits-to_bits binary64 x h)
 handed-back (F32 x) h =
     sym (held (to_bits binary32 x) (2 ^ 32) (F32 _) (to_bits-lt binary32 x h)) ∙ ap (λ y. Value (F32 y)) (of_bits-to_bits binary32 x h)

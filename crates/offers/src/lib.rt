@@ -3,6 +3,8 @@
 // Promise: each call takes whatever it is given and answers as specs/Records.antt says. Nothing is cut
 // to low bits: a word that is no value of its kind is an offer of no kind, and so is a record of
 // another code or one that is cut short. No public call has a `requires`.
+#![tactic(auto)]
+
 use descriptor::PgnValue;
 
 mod kinds;

@@ -1,4 +1,4 @@
--- what `read_most` answers, at its own type.
+-- What `read_most` answers, at its own type.
 use mathlib.Core.Path.{sym, ◌∙◌}
 use Rattle.bits.proofs.Answers.{read_fits}
 use Rattle.bits.proofs.Cursor.read_u16.Goals as goal

@@ -1,4 +1,4 @@
--- the run lies in one word, or goes byte by byte.
+-- The run lies in one word, or goes byte by byte.
 use mathlib.Core.Path.{◌≡◌, sym, ap, ◌∙◌}
 use Prim.Native.Nat.{ℕ, ◌+◌, ◌*◌, ◌-◌}
 use native.Mathlib.Omega.{arith}

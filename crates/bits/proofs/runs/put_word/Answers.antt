@@ -1,4 +1,4 @@
--- each store is one byte more of the word.
+-- Each store is one byte more of the word.
 use mathlib.Core.Path.{sym, ap, ◌∙◌}
 use Prim.Native.Nat.{ℕ, ◌+◌, ◌*◌, ◌%◌, ◌^◌}
 use native.Mathlib.Nat.{div-one}

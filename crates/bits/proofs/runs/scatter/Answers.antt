@@ -1,4 +1,4 @@
--- the run lies in one word, which is put back with it, or goes byte by byte.
+-- The run lies in one word, which is put back with it, or goes byte by byte.
 use mathlib.Core.Path.{◌≡◌, sym, ap, ◌∙◌, subst}
 use Prim.Native.Nat.{ℕ, ◌+◌, ◌*◌, ◌-◌, ◌^◌, ◌≤◌, ◌<◌}
 use native.Mathlib.Omega.{arith}

@@ -1,4 +1,4 @@
--- the eight bytes, each shifted to its place.
+-- The eight bytes, each shifted to its place.
 use Rattle.bits.proofs.Words.{word-code}
 use Rattle.bits.proofs.runs.word.Goals as goal
 

@@ -1,4 +1,4 @@
--- the bits are those of a NaN.
+-- The bits are those of a NaN.
 use mathlib.Core.Path.{ap}
 use lib.Ieee.{of_bits}
 use Rattle.descriptor.specs.declared.Resolution.TheVariants.{Single}

@@ -1,4 +1,4 @@
--- a byte is an 8-bit read, and past the end it is 0.
+-- A byte is an 8-bit read, and past the end it is 0.
 use mathlib.Core.Path.{◌≡◌, sym, ◌∙◌}
 use native.Mathlib.Omega.{arith}
 use lib.ListN.{get_or, get_or-eq_default}

@@ -1,4 +1,4 @@
--- by the case of the cut.
+-- By the case of the cut.
 use mathlib.Core.Path.{sym, ◌∙◌}
 use Rattle.numbers.proofs.Limits.{cut_fits}
 use Rattle.numbers.proofs.quantizing.cut.Goals as goal

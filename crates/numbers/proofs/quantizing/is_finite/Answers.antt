@@ -1,4 +1,4 @@
--- between the infinities.
+-- Between the infinities.
 use mathlib.Core.Path.{◌≡◌, refl, sym, ap, ◌∙◌}
 use mathlib.Core.Bool.{true, false}
 use lib.Dec.{lit≤}

@@ -1,4 +1,4 @@
--- by whether it is 2^64.
+-- By whether it is 2^64.
 use mathlib.Core.Path.{◌≡◌, sym, ap, ◌∙◌}
 use mathlib.Core.Bool.{Bool, true, false}
 use lib.Ieee.{fin, binary64, fits, eq}

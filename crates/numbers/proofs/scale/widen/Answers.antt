@@ -1,4 +1,4 @@
--- the same number, or the one NaN.
+-- The same number, or the one NaN.
 use mathlib.Core.Path.{sym, ◌∙◌}
 use mathlib.Core.Bool.{not}
 use lib.Ieee.{binary32, binary64, fits, is_nan, ne}

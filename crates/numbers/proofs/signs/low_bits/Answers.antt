@@ -1,4 +1,4 @@
--- a mask of n ones.
+-- A mask of n ones.
 use mathlib.Core.Path.{sym, ap, ◌∙◌}
 use native.Mathlib.Nat.{mod-eq_of_lt, lt_of_lt_of_le}
 use lib.Bits.{bit_and, and_mask}

@@ -1,4 +1,4 @@
--- the sign's bit and the pattern make the rounded value, by `proofs/FewerDigits.antt`, and a
+-- The sign's bit and the pattern make the rounded value, by `proofs/FewerDigits.antt`, and a
 -- NaN is made of 0 / 0.
 use mathlib.Core.Path.{◌≡◌, refl, sym, ap, ◌∙◌, subst}
 use Prim.Native.Nat.{ℕ, ◌+◌, ◌*◌, ◌/◌, ◌%◌, ◌^◌, ◌≤◌, ◌<◌}

@@ -1,4 +1,4 @@
--- each way out is one of the definition's four ranges.
+-- Each way out is one of the definition's four ranges.
 use mathlib.Core.Path.{◌≡◌, sym, ap, ◌∙◌}
 use Prim.Native.Nat.{ℕ, ◌+◌, ◌-◌, ◌*◌, ◌^◌}
 use Rattle.rounding.specs.Narrowing.{pattern_of}

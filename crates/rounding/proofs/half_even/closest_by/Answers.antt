@@ -1,4 +1,4 @@
--- the calls answer the half of 2 ^ k, the quotient and the rest, and the one comparison
+-- The calls answer the half of 2 ^ k, the quotient and the rest, and the one comparison
 -- rounds, by `proofs/HalfEven.antt`.
 use mathlib.Core.Path.{◌≡◌, sym, ap, ◌∙◌, subst}
 use Prim.Native.Nat.{ℕ, suc, ◌+◌, ◌-◌, ◌*◌, ◌/◌, ◌%◌, ◌^◌, ◌≤◌, ◌<◌}

@@ -1,4 +1,4 @@
--- the float nearest to the magnitude, negated below zero, by `proofs/Signs.antt`.
+-- The float nearest to the magnitude, negated below zero, by `proofs/Signs.antt`.
 use mathlib.Core.Path.{◌≡◌, ap, ◌∙◌}
 use Prim.Native.Nat.{ℕ}
 use lib.IntN.{pos, nat_abs}

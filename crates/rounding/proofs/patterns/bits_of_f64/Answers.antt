@@ -1,4 +1,4 @@
--- a NaN's bits are those of the one NaN.
+-- A NaN's bits are those of the one NaN.
 use mathlib.Core.Path.{◌≡◌, refl, sym, ap, ◌∙◌}
 use lib.Ieee.{nan, binary64, ne, to_bits}
 use lib.Ieee.Compare.{differs_from_itself}

@@ -1,4 +1,4 @@
--- a NaN's pattern is the NaN's, any other makes a float.
+-- A NaN's pattern is the NaN's, any other makes a float.
 use mathlib.Core.Path.{sym, ◌∙◌}
 use lib.Ieee.{binary64}
 use Rattle.rounding.proofs.Fields.{no-nan-at}

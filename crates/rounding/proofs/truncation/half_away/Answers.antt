@@ -1,4 +1,4 @@
--- the branch is the definition's test, and 0.5 is read from its bits.
+-- The branch is the definition's test, and 0.5 is read from its bits.
 use mathlib.Core.Path.{sym, ap}
 use mathlib.Core.Bool.{Bool, cond}
 use lib.Ieee.{binary64, add, sub, of_bits}

@@ -1,4 +1,4 @@
--- each way out is a shift of the digits that the exponent's field picks, by
+-- Each way out is a shift of the digits that the exponent's field picks, by
 -- `proofs/WholePart.antt`. A field above 1086 is an infinity's or that of 2 ^ 64 or more.
 use mathlib.Core.Path.{◌≡◌, refl, sym, ap, ◌∙◌}
 use Prim.Native.Nat.{ℕ, ◌≤◌, ◌<◌}

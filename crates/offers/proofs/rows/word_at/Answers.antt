@@ -1,4 +1,4 @@
--- `offers::rows::word_at` meets its contract: the 64 bits of a part of 8 bytes are those of the whole where it stands. Assumes nothing.
+-- The 64 bits of a part of 8 bytes are those of the whole where it stands.
 use mathlib.Core.Path.{◌≡◌, sym, ap, ap₂, ◌∙◌}
 use mathlib.Core.List.{List}
 use Prim.Native.Nat.{ℕ, ◌+◌, ◌-◌, ◌*◌, ◌/◌, ◌%◌, ◌≤◌, ◌<◌}
@@ -10,9 +10,7 @@ use Rattle.bits.specs.Calls.{cursor_at, moved_by, room_of, width_max, read_in, r
 use Rattle.bits.specs.declared.ReadU64.TheVariants as read64
 use Rattle.bits.proofs.Sums.{sum-ext}
 use Rattle.offers.specs.Records.{word_at}
-use borrow.Author.Rules.{rules}
-use Rattle.offers.proofs.rows.word_at.Statement.{statement}
-use Rattle.offers.proofs.rows.word_at.Tie as tie
+use Rattle.offers.proofs.rows.word_at.Goals as goal
 
 part-bits : (s : List ℕ) (q : ℕ) → bits_at (take 8 (drop q s)) 0 64 ≡ word_at s q
 part-bits s q = sum-ext _ _ 64 (λ j l.
@@ -29,52 +27,7 @@ read s q h =
     ∙ ap (λ (n : ℕ). read_in (room_of n 0 64 width_max) (take 8 (drop q s)) (cursor_at 0) 64) e
     ∙ ap (λ (w : ℕ). read64.Got w (moved_by (cursor_at 0) 64)) (part-bits s q)
 
-add-read-u64 : tie.Need-overflow-add-read-u64
-add-read-u64 c = search rules
-
-sub-read-u64 : tie.Need-overflow-sub-read-u64
-sub-read-u64 c = search rules
-
-part-read-u64-start : tie.Need-slice-bounds-read-u64-start
-part-read-u64-start c = search rules
-
-part-read-u64-end : tie.Need-slice-bounds-read-u64-end
-part-read-u64-end c = search rules
-
-read-u64-requires : tie.Need-read-u64-requires
-read-u64-requires c κs = search rules
-
-enum-known-value : tie.Need-enum-known-value
-enum-known-value c = search rules
-
-enum_told : tie.Need-enum-told
-enum_told c = search rules
-
-returns : tie.Need-returns
-returns c =
-    let z = c.before.before.before.before.before.before in
-    let g = c.before.value.given.1 in
-    let r = sym g ∙ c.before.before.before.read_u64.ensures ∙ read z.args.s.now z.args.q z.requires in
+pub returns-in-Got : goal.returns-in-Got
+returns-in-Got c =
+    let r = sym c.in-Got.is ∙ c.read_u64.ensures ∙ read c.args.s.now c.args.q c.requires in
     cc
-
-returns-2 : tie.Need-returns-2
-returns-2 c =
-    let z = c.before.before.before.before.before in
-    let g = c.enum_told.given.1 in
-    let r = sym g ∙ c.before.before.read_u64.ensures ∙ read z.args.s.now z.args.q z.requires in
-    let x : ◌≡◌ {A = ℕ} 0 1 = cc in
-    absurd (omega arith)
-
-pub word-at-spec : {M : Type 1} → statement M
-word-at-spec =
-    tie.close
-    (tie.spec
-    add-read-u64
-    sub-read-u64
-    part-read-u64-start
-    part-read-u64-end
-    read-u64-requires
-    enum-known-value
-    enum_told
-    returns
-    returns-2)
