@@ -6,7 +6,6 @@ use native.Mathlib.Omega.{arith}
 use lib.Dec.{eqb, ltb}
 use borrow.Author.Tests.{eqb-false, ltb-false}
 use Rattle.bits.specs.Bits.{pick}
-use Rattle.bits.specs.Calls.{bits}
 use Rattle.bits.specs.declared.Room.{Room}
 use Rattle.bits.specs.declared.Room.TheVariants as room
 use Rattle.bits.proofs.Rooms.{whole}
@@ -17,7 +16,7 @@ use Rattle.fields.specs.declared.Raw.TheVariants as raw
 use Rattle.fields.specs.declared.Shape.{Shape}
 use Rattle.fields.specs.declared.Shape.TheVariants.{Number, Gap, Fixed, Whole, Lau, Lz}
 use Rattle.fields.specs.declared.Taken.{Taken}
-use Rattle.fields.specs.declared.Taken.TheVariants.{Took, Refused}
+use Rattle.fields.specs.declared.Taken.TheVariants.{Took}
 use Rattle.fields.specs.Payload.{Payload}
 use Rattle.fields.specs.Shapes.{shape_of}
 use Rattle.fields.specs.Taken.{if_room_lem, if_length, room_at, text_room_lem, lau_taken, closed_by, taken_by}

@@ -32,7 +32,6 @@ use Rattle.reading.specs.declared.Answer.TheVariants.{Met, Skipped, Moved, Ended
 use Rattle.reading.specs.declared.Next.{Next}
 use Rattle.reading.specs.declared.Decoded.{Decoded}
 use Rattle.reading.specs.declared.Decoded.TheVariants as decoded
-use Rattle.reading.specs.declared.Came.{Came}
 use Rattle.reading.specs.declared.Came.TheVariants as came
 use Rattle.fields.specs.Payload.{Payload, payload_of}
 use Rattle.fields.specs.Shapes.{shape_of}

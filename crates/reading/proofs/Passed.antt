@@ -8,7 +8,6 @@ use lib.ListN.{length, length-append}
 use lib.Dec.{ltb}
 use borrow.Author.Tests.{ltb-false}
 use Rattle.bits.specs.declared.BitPos.{BitPos}
-use Rattle.bits.specs.Calls.{bits}
 use Rattle.tables.specs.Table.{Table}
 use Rattle.walking.specs.declared.Element.{Element}
 use Rattle.walking.specs.Runs.{ran, stopped}

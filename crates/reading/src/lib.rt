@@ -11,6 +11,8 @@
 //     start, next_field     turn by turn: a reading, a field skipped, the end or the refusal
 //     came_to               what a turn came to: the walk goes on, or the answer of the decode
 //     for_each_field        all of it in one call, without the readings
+#![tactic(auto)]
+
 use bits::BitPos;
 use descriptor::{Availability, PgnValue};
 use fields::{DecodeRefusal, Raw};
