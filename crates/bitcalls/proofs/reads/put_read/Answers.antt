@@ -1,0 +1,8 @@
+-- by the answer of the read.
+use mathlib.Core.Path.{sym, ap, ◌∙◌}
+use Rattle.text.proofs.Sheets.{then, same}
+use Rattle.bitcalls.specs.Text.{read_text}
+use Rattle.bitcalls.proofs.reads.put_read.Goals as goal
+
+pub returns-in-Got : goal.returns-in-Got
+returns-in-Got c = same (sym (ap read_text c.in-Got.is) ∙ ap read_text c.read_width.ensures) (then c.put_ok-a.ensures c.put_value.ensures)
