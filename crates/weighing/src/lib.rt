@@ -5,6 +5,8 @@
 // specs/Weigh.antt says: the raw or the text with the bits that the field takes, or the refusal, with
 // document 01's number and values. It sees no buffer and no text, only their lengths. No public call
 // has a `requires`.
+#![tactic(auto)]
+
 use bits::{BitPos, BitRefusal, ByteCount};
 use descriptor::PgnBytes;
 use tables::TableRule;
