@@ -10,7 +10,6 @@ use lib.ListN.{set, length-set}
 use borrow.Author.Rules.{rules}
 use borrow.Author.Tests.{eq-eqb, ne_eqb}
 use Rattle.reading.proofs.Counted.{noted_here, noted-past, noted-none}
-use borrow.Author.Rules.{rules}
 use Rattle.reading.proofs.groups.noted.Goals as goal
 
 pub loop-k-init : goal.loop-k-init
