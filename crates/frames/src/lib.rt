@@ -7,6 +7,8 @@
 // its payload bytes.
 // So lines of any length are read right in the memory of one short frame. `frame_of` answers 14, 15 or
 // the message, as these definitions have it. No call has a `requires`.
+#![tactic(auto)]
+
 mod digest;
 mod lookup;
 
