@@ -28,7 +28,7 @@ use Rattle.numbers.specs.Held.{HeldByte, Held}
 use Rattle.offers.specs.declared.Offer.{Offer}
 use Rattle.offers.specs.declared.Offer.TheVariants.{Nothing, NoKind, Value}
 use Rattle.weighing.specs.declared.EncodeRefusal.{EncodeRefusal}
-use Rattle.weighing.specs.declared.EncodeRefusal.TheVariants.{BitWriteError, TextTooLong, WrongKind, WrongLength}
+use Rattle.weighing.specs.declared.EncodeRefusal.TheVariants.{BitWriteError, TextTooLong, WrongLength}
 use Rattle.weighing.specs.declared.Lead.{Lead}
 use Rattle.weighing.specs.declared.Lead.TheVariants.{Bare, Counted, Encoded, Empty}
 use Rattle.weighing.specs.declared.Weighed.{Weighed}

@@ -28,7 +28,7 @@ use Rattle.fields.specs.Shapes.{shape_of}
 use Rattle.weighing.specs.declared.Lead.{Lead}
 use Rattle.weighing.specs.declared.Lead.TheVariants.{Bare, Counted, Encoded, Empty}
 use Rattle.weighing.specs.declared.Weighed.{Weighed}
-use Rattle.weighing.specs.declared.Weighed.TheVariants.{Number, Gap, Text, Refused}
+use Rattle.weighing.specs.declared.Weighed.TheVariants.{Text, Refused}
 use Rattle.weighing.specs.declared.EncodeRefusal.TheVariants.{BitWriteError, TextTooLong}
 use Rattle.weighing.specs.Weigh.{if_room_lem, if_aligned_lem, at_field_lem, number_by, gap_of, text_by, unencoded, lau_by, by_bytes, weighed_by, weighed_of}
 use Rattle.tables.specs.Check.{payload_max}

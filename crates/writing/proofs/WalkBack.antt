@@ -7,7 +7,6 @@ use Prim.Native.Nat.{ℕ, ◌+◌, ◌*◌, ◌^◌, ◌≤◌, ◌<◌}
 use native.Mathlib.Omega.{arith}
 use lib.ListN.{length}
 use borrow.Author.Tests.{lt-ltb}
-use Rattle.bits.specs.Calls.{bits}
 use Rattle.descriptor.specs.declared.PgnValue.{PgnValue}
 use Rattle.numbers.specs.Conversions.{raw_of_lem}
 use Rattle.numbers.specs.declared.RawOf.TheVariants as rawed

@@ -13,6 +13,8 @@
 //     encode                all of it in one call, by value records in bytes
 //     write_field           one field, by itself
 //     bytes_used            the bytes that so many bits take
+#![tactic(auto)]
+
 use bits::{BitPos, ByteCount};
 use reading::Span;
 use walking::Spot;
