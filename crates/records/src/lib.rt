@@ -4,6 +4,8 @@
 // buffer at exit is what specs/Layout.antt lays out: a count, a record of 64 bytes for each reading,
 // little-endian, and every later byte as it was. Refusals 7 and 8 leave it as it was. The way there is
 // a quick one for numbers, proved to come to the same.
+#![tactic(auto)]
+
 use fields::Raw;
 use reading::Decoded;
 
