@@ -4,7 +4,7 @@ use mathlib.Core.Bool.{Bool, true, false}
 use mathlib.Core.List.{List, [], ◌∷◌, ◌++◌, flat_map}
 use Prim.Native.Nat.{ℕ, ◌+◌, ◌-◌, ◌*◌, ◌/◌, ◌%◌, ◌^◌, ◌≤◌, ◌<◌}
 use native.Mathlib.Omega.{arith}
-use borrow.Author.Tests.{lt-ltb, le-ltb, ltb-true, ltb-false}
+use borrow.Author.Tests.{ltb-false}
 use lib.Dec.{eqb, leb, ltb}
 use lib.ListN.{length, take, set, replicate, length-set, length-replicate}
 use Rattle.bits.specs.Bits.{pick}
@@ -42,7 +42,7 @@ use Rattle.frames.specs.Refusals.{number_of, carried_of}
 use Rattle.frame_lines.specs.Lines.{newline, pgn_text, frame_line, refusal_line, malformed_line, unknown_line}
 use Rattle.frame_lines.specs.Decode.{decode_text, walk_text}
 use Rattle.printing.specs.Text.{message_text, frame_text, answer_to, answered}
-use Rattle.printing.specs.Answers.{payload_text, answer_by, Kept, kept, samopute}
+use Rattle.printing.specs.Answers.{answer_by, Kept, kept, samopute}
 
 -- ## A payload
 

@@ -1,14 +1,14 @@
 -- The printing program as a whole: over any list of calls, whatever the chunks and the pages, all that was put is document 01's text for all that was taken; and
 -- with empty pages of `PAGE` bytes enough calls take all of a chunk. Assumes nothing.
-use mathlib.Core.Path.{◌≡◌, refl, sym, ap, ◌∙◌}
+use mathlib.Core.Path.{◌≡◌, sym, ap, ◌∙◌}
 use mathlib.Core.Bool.{Bool, true, false}
 use mathlib.Core.Logic.{◌⊎◌}
 use mathlib.Core.List.{List, [], ◌++◌, append-nil}
 use Prim.Native.Nat.{ℕ, ◌+◌, ◌^◌, ◌≤◌, ◌<◌}
 use native.Mathlib.Omega.{arith}
 use lib.ListN.{length}
-use Rattle.text.specs.Sheet.{sheet, lost}
-use Rattle.lines.specs.Machine.{passed, pass_of, owes, text_from, plain, closed}
+use Rattle.text.specs.Sheet.{lost}
+use Rattle.lines.specs.Machine.{owes, text_from, plain, closed}
 use Rattle.lines.specs.Calls.{Call, Sound, put, taken, held_after, waits_after, Rests, Drains}
 use Rattle.lines.proofs.Stream as lines
 use Rattle.lines.proofs.Progress.{progress, moves}

@@ -5,13 +5,12 @@ use mathlib.Core.List.{List, [], ◌∷◌}
 use Prim.Native.Nat.{ℕ, ◌+◌, ◌-◌, ◌≤◌, ◌<◌}
 use native.Mathlib.Omega.{arith}
 use borrow.Author.Tests.{le-leb, lt-leb}
-use lib.Dec.{leb}
 use lib.ListN.{length, take, drop, length-drop}
 use lib.Seq.{take_all}
 use Rattle.bits.specs.Bits.{pick}
 use Rattle.hexadecimal.specs.Digits.{value_of}
-use Rattle.text.specs.Sheet.{Sheet, sheet, page_of, place_of, put_all, Puts}
-use Rattle.lines.specs.Machine.{Passed, passed, pass_from, pass_of, answered_or, fits, up_to_newline}
+use Rattle.text.specs.Sheet.{Sheet, sheet, page_of, Puts}
+use Rattle.lines.specs.Machine.{Passed, passed, pass_from, answered_or, fits, up_to_newline}
 use Rattle.lines.proofs.UpTo.{feds, up_le, rest-taken, rest-ends}
 use Rattle.frames.specs.declared.Line.{Line}
 use Rattle.frames.specs.declared.Fed.{Fed}

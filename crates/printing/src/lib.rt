@@ -7,6 +7,8 @@
 // put and what is owed is the text of all that was taken, whatever the chunks and the pages; that with
 // an empty page of PAGE bytes no line waits for its answer twice; and that enough calls take all of a
 // chunk. No call has a `requires`.
+#![tactic(auto)]
+
 mod answers;
 mod passing;
 
