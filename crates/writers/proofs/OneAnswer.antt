@@ -3,6 +3,7 @@
 use Rattle.std.proofs.Common.{◌≡◌, ◌∙◌, ℕ, List, ap}
 use Rattle.one_answer.proofs.Fixes.{Fixes, fixed}
 use Rattle.bits.specs.declared.Moved.{Moved}
+use Rattle.bits.specs.Calls.{written_of, sliced_of}
 use Rattle.writers.specs.Writer.{wrote, after_moved_lem}
 use Rattle.writers.specs.declared.BitWriter.{BitWriter}
 use Rattle.writers.proofs.BitWriter.new.Reads as new
@@ -23,37 +24,37 @@ one-write-u64 : Fixes write-u64.Post (λ κs x s. x)
 one-write-u64 = fixed (λ κs a x s p. p.0)
 
 same-write-u64 : Fixes write-u64.Post (λ κs x s. s.0.now)
-same-write-u64 = fixed (λ κs a x s p. p.1 ∙ writers a.0.now _ p.0)
+same-write-u64 = fixed (λ κs a x s p. p.1 ∙ writers a.0.now (written_of a.0.now.dest.now a.0.now.cursor a.1.1.0 64 a.1.0) p.0)
 
 one-write-u32 : Fixes write-u32.Post (λ κs x s. x)
 one-write-u32 = fixed (λ κs a x s p. p.0)
 
 same-write-u32 : Fixes write-u32.Post (λ κs x s. s.0.now)
-same-write-u32 = fixed (λ κs a x s p. p.1 ∙ writers a.0.now _ p.0)
+same-write-u32 = fixed (λ κs a x s p. p.1 ∙ writers a.0.now (written_of a.0.now.dest.now a.0.now.cursor a.1.1.0 32 a.1.0) p.0)
 
 one-write-u16 : Fixes write-u16.Post (λ κs x s. x)
 one-write-u16 = fixed (λ κs a x s p. p.0)
 
 same-write-u16 : Fixes write-u16.Post (λ κs x s. s.0.now)
-same-write-u16 = fixed (λ κs a x s p. p.1 ∙ writers a.0.now _ p.0)
+same-write-u16 = fixed (λ κs a x s p. p.1 ∙ writers a.0.now (written_of a.0.now.dest.now a.0.now.cursor a.1.1.0 16 a.1.0) p.0)
 
 one-write-u8 : Fixes write-u8.Post (λ κs x s. x)
 one-write-u8 = fixed (λ κs a x s p. p.0)
 
 same-write-u8 : Fixes write-u8.Post (λ κs x s. s.0.now)
-same-write-u8 = fixed (λ κs a x s p. p.1 ∙ writers a.0.now _ p.0)
+same-write-u8 = fixed (λ κs a x s p. p.1 ∙ writers a.0.now (written_of a.0.now.dest.now a.0.now.cursor a.1.1.0 8 a.1.0) p.0)
 
 one-advance : Fixes advance.Post (λ κs x s. x)
 one-advance = fixed (λ κs a x s p. p.0)
 
 one-advanced : Fixes advance.Post (λ κs x s. s.0.now)
-one-advanced = fixed (λ κs a x s p. p.1 ∙ writers a.0.now _ p.0)
+one-advanced = fixed (λ κs a x s p. p.1 ∙ writers a.0.now a.0.now.dest.now p.0)
 
 one-write-slice : Fixes write-slice.Post (λ κs x s. x)
 one-write-slice = fixed (λ κs a x s p. p.0)
 
 one-sliced : Fixes write-slice.Post (λ κs x s. s.0.now)
-one-sliced = fixed (λ κs a x s p. p.1 ∙ writers a.0.now _ p.0)
+one-sliced = fixed (λ κs a x s p. p.1 ∙ writers a.0.now (sliced_of a.0.now.dest.now a.0.now.cursor a.1.0.now) p.0)
 
 -- The rest.
 
