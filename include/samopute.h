@@ -2,9 +2,9 @@
  * The boundary of Samopute for C99 and C++: GNSS payloads in NMEA 2000 form, in; readings or a numbered refusal, out.
  * And back: values in, a payload or a numbered refusal out.
  *
- * `rt staticlib samopute_c` makes target/staticlib/libsamopute_c.a for x86-64 Linux, and `rt staticlib samopute_run`
- * libsamopute_run.a beside it, which has samopute_decode_run alone. They have no heap and no global state: every buffer
- * is lent by the caller for the time of the call, and threads may call at once on buffers of their own.
+ * `./libraries` makes target/staticlib/libsamopute_c.a for x86-64 Linux, and libsamopute_run.a beside it, which has
+ * samopute_decode_run alone. They have no heap and no global state: every buffer is lent by the caller for the time of
+ * the call, and threads may call at once on buffers of their own.
  *
  * A slice is a pointer and a length. Nothing outside it is read or written, so with a length of 0 the pointer is never
  * followed. Bytes need no alignment; `words` and `answer` are arrays of uint64_t, and samopute_decode_run is lent an

@@ -1,7 +1,7 @@
 #!/usr/bin/env bash
 # The boundary as C and Rust see it: the header, the library by itself, the C examples, hostile input, the stack that it
-# takes and the Rust crate. Wants libsamopute_c.a and libsamopute_run.a in target/staticlib (rt staticlib samopute_c,
-# rt staticlib samopute_run), or the folder of them in SAMOPUTE_LIB_DIR. Last line: 'N passed, M failed'.
+# takes and the Rust crate. Wants libsamopute_c.a and libsamopute_run.a in target/staticlib, where ./libraries puts them,
+# or the folder of them in SAMOPUTE_LIB_DIR. Last line: 'N passed, M failed'.
 #
 # The library is for x86-64. On another processor C is compiled for x86-64 too, by Debian's g++-x86-64-linux-gnu, and run
 # under an emulator (tests/run.sh). Rust, which cannot be had for x86-64 there, and what the address checker watches, which
@@ -422,8 +422,7 @@ rust() {
 for library in "${libraries[@]}"; do
     if [ ! -f "$library" ]; then
         failed=1
-        name=$(basename "$library" .a)
-        echo "FAILED boundary: $library is missing: run rt staticlib ${name#lib} first"
+        echo "FAILED boundary: $library is missing: run ./libraries first"
         finish
     fi
 done

@@ -1,7 +1,8 @@
 #!/usr/bin/env bash
 # The built programs on what one stdin file cannot hold: no input, no last newline, very long lines, any bytes at all, input
 # in pieces, a pipe that stays open, pages that are just full, and input or output that fails.
-# Wants them in target/bin (rt check), and a C compiler for tests/pieces.c. Last line: 'N passed, M failed'.
+# Wants them in crates/NAME/out, where `rt ci` leaves them, or `rt run` in the folder of each; and a C compiler for
+# tests/pieces.c. Last line: 'N passed, M failed'.
 set -u
 cd "$(dirname "$0")/.." || exit 1
 program=bitcalls
@@ -11,7 +12,7 @@ passed=0
 failed=0
 
 # run NAME: a built program.
-run() { sh tests/run.sh "target/bin/$1"; }
+run() { sh tests/run.sh "crates/$1/out/$1"; }
 
 # same NAME: what $program writes for $work/in is $work/wanted, byte for byte.
 same() {
@@ -34,7 +35,7 @@ wrote() {
 }
 
 # pieces MODE..: $program, with its input handed to it as tests/pieces.c says.
-pieces() { "$work/pieces" "$@" sh tests/run.sh "target/bin/$program"; }
+pieces() { "$work/pieces" "$@" sh tests/run.sh "crates/$program/out/$program"; }
 
 # told NAME WHY: $work/err, what $program wrote to standard error, is one line that gives its name and WHY.
 told() {

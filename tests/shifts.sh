@@ -1,8 +1,9 @@
 #!/usr/bin/env bash
-# Document 02, §4: no 64-bit number is shifted by a variable count, in any crate. Read off the compiler's own form of
-# each crate (`rt mir NAME`), which holds the crate's functions and all that they reach: both are tested. What a compiler
-# for another processor makes of it is not seen here: none for the new computer was at hand (docs/DECISIONS.md, 87).
-# Wants the crates proved (`rt check`), else it proves them first. Last line: 'N passed, M failed'.
+# Document 02, §4: no 64-bit number is shifted by a variable count, in any crate. Read off the compiler's own forms of each
+# crate (tests/shifts.py): of a library and a static library that which is linked, with the crate's functions and all that
+# they reach; of a program the module that goes to LLVM, with all that `main` reaches. What a compiler for another processor
+# makes of it is not seen here: none for the new computer was at hand (docs/DECISIONS.md, 87).
+# Wants the libraries in crates/*/out, as `rt ci` leaves them, else it proves them first. Last line: 'N passed, M failed'.
 set -u -o pipefail
 cd "$(dirname "$0")/.." || exit 1
 work=$(mktemp -d)
@@ -19,78 +20,79 @@ count() {
     fi
 }
 
-# Reads the compiler's form and prints a line for each shift: FUNCTION WIDTH constant|variable. WIDTH is that of the
-# number that is shifted, or 'unread' where its operand has a form that is not known here; its count is then told as
-# variable, so that nothing passes unread.
-shifts() {
-    tr -s '[:space:]' ' ' | sed 's/(fn-def "/\n(fn-def "/g' | awk '
-        !/^\(fn-def "/ { next }
-        {
-            name = substr($2, 2, length($2) - 2)
-            split("", width)
-            locals = 0
-            rest = $0
-            while (match(rest, /\(local /)) {
-                rest = substr(rest, RSTART + RLENGTH)
-                width[locals++] = rest ~ /^\(tyInt [0-9]+\) / ? substr(rest, 8) + 0 : "unread"
-            }
-            rest = $0
-            while (match(rest, /op2 (shl|\(shr (un)?signed\)) /)) {
-                rest = substr(rest, RSTART + RLENGTH)
-                wide = "unread"
-                if (match(rest, /^\(int [0-9]+ [0-9]+\) /)) wide = substr(rest, 6) + 0
-                else if (match(rest, /^\(copy \(place [0-9]+ lnil\)\) /)) {
-                    at = substr(rest, 14) + 0
-                    if (at in width) wide = width[at]
-                } else RLENGTH = 0
-                rest = substr(rest, RLENGTH + 1)
-                print name, wide, rest ~ /^\(int [0-9]+ [0-9]+\)/ ? "constant" : "variable"
-            }
-        }'
-}
-
 # The shifts that must not be: by a variable count, of a number that is not known to be of 32 bits or fewer.
-forbidden() { awk '$3 != "constant" && !($2 ~ /^[0-9]+$/ && $2 <= 32)'; }
+forbidden() { awk 'NF == 3 && $3 != "constant" && !($2 ~ /^[0-9]+$/ && $2 <= 32)'; }
+
+# found FORM: the functions of the sample in that form in which a shift is forbidden, in a line.
+found() { python3 tests/shifts.py "read-$1" "$work/sample.$1" | forbidden | cut -d ' ' -f 1 | tr '\n' ' '; }
 
 # Seven functions by hand, of which five must be found: two shift 64 bits by a variable count, one of them with a sign;
 # one shifts a literal, one a field, whose form is not known here, and one a local that is not there.
-cat >"$work/sample" <<'END'
-program (lcons (fn-def "a::of_a_local" (fnItem 0 lnil 1 (lcons (local tyBool valueLocal) (lcons
- (local (tyInt 64) valueLocal) lnil)) (seq (assign (place 0 lnil) (op2 (shr unsigned) (copy (place 1 lnil))
- (copy (place 2 lnil)))) return))) (lcons (fn-def "a::of_a_literal" (fnItem 0 lnil 0 lnil (assign (place 0 lnil)
- (op2 shl (int 64 1) (copy (place 2 lnil)))))) (lcons (fn-def "a::of_a_field" (fnItem 0 lnil 0 lnil (assign
- (place 0 lnil) (op2 shl (copy (place 0 (lcons (field 1) lnil))) (copy (place 2 lnil)))))) (lcons
- (fn-def "a::of_no_local" (fnItem 0 lnil 0 lnil (op2 shl (copy (place 7 lnil)) (copy (place 2 lnil))))) (lcons
- (fn-def "a::of_a_signed" (fnItem 0 lnil 0 (lcons (local (tyInt 64) valueLocal) lnil) (op2 (shr signed)
- (copy (place 0 lnil)) (copy (place 0 lnil))))) (lcons (fn-def "a::of_a_half" (fnItem 0 lnil 1 (lcons
- (local (tyInt 32) valueLocal) (lcons (local (tyInt 64) valueLocal) lnil)) (op2 shl (copy (place 0 lnil))
- (copy (place 1 lnil))))) (lcons (fn-def "a::by_eight" (fnItem 0 lnil 1 (lcons (local (tyInt 64) valueLocal) lnil)
- (op2 (shr unsigned) (copy (place 0 lnil)) (int 64 8)))) lnil)))))))
+cat >"$work/sample.mir" <<'END'
+[["a::of_a_local", {"locals": [{"ty": "Bool"}, {"ty": {"Int": 64}}], "body": ["Seq", {"Assign": [{"local": 0, "steps": []},
+  {"Op2": [{"Shr": "Unsigned"}, {"Copy": {"local": 1, "steps": []}}, {"Copy": {"local": 2, "steps": []}}]}]}, "Return"]}],
+ ["a::of_a_literal", {"locals": [], "body": [{"Assign": [{"local": 0, "steps": []},
+  {"Op2": ["Shl", {"Int": {"width": 64, "value": 1}}, {"Copy": {"local": 2, "steps": []}}]}]}]}],
+ ["a::of_a_field", {"locals": [{"ty": {"Int": 32}}], "body": ["Seq", "Seq", {"If": {"Copy": {"local": 0, "steps": []}}},
+  {"Assign": [{"local": 0, "steps": []}, {"Op2": ["Shl", {"Copy": {"local": 0, "steps": [{"Field": 1}]}}, {"Copy": {"local": 2, "steps": []}}]}]}]}],
+ ["a::of_no_local", {"locals": [], "body": [{"Assign": [{"local": 0, "steps": []},
+  {"Op2": ["Shl", {"Copy": {"local": 7, "steps": []}}, {"Copy": {"local": 2, "steps": []}}]}]}]}],
+ ["a::of_a_signed", {"locals": [{"ty": {"Int": 64}}], "body": [{"Assign": [{"local": 0, "steps": []},
+  {"Op2": [{"Shr": "Signed"}, {"Copy": {"local": 0, "steps": []}}, {"Copy": {"local": 0, "steps": []}}]}]}]}],
+ ["a::of_a_half", {"locals": [{"ty": {"Int": 32}}, {"ty": {"Int": 64}}], "body": [{"Assign": [{"local": 0, "steps": []},
+  {"Op2": ["Shl", {"Copy": {"local": 0, "steps": []}}, {"Copy": {"local": 1, "steps": []}}]}]}]}],
+ ["a::by_eight", {"locals": [{"ty": {"Int": 64}}], "body": [{"Assign": [{"local": 0, "steps": []},
+  {"Op2": [{"Shr": "Unsigned"}, {"Copy": {"local": 0, "steps": []}}, {"Int": {"width": 64, "value": 8}}]}]}]}]]
 END
-found=$(shifts <"$work/sample" | forbidden | cut -d ' ' -f 1 | tr '\n' ' ')
-[ "$found" = "a::of_a_local a::of_a_literal a::of_a_field a::of_no_local a::of_a_signed " ]
-count "five of seven functions by hand must be found; found: ${found:-none}" $?
+wanted="a::of_a_local a::of_a_literal a::of_a_field a::of_no_local a::of_a_signed "
+names=$(found mir)
+[ "$names" = "$wanted" ]
+count "five of seven functions by hand must be found in the form of a library; found: ${names:-none}" $?
+
+# The same in the other form: a vector has no width that is known here, and a turn of two numbers none either.
+cat >"$work/sample.module" <<'END'
+define internal noundef i64 @"a::of_a_local"(i64 noundef %a0, i64 noundef %a1) #0 {
+  %r2 = lshr i64 %a0, %a1
+define internal noundef i64 @"a::of_a_literal"(i64 noundef %a0) #0 {
+  %r1 = shl nuw i64 1, %a0
+define internal void @"a::of_a_vector"(ptr noundef %a0) #0 {
+  %r1 = shl <2 x i64> %r0, %r3
+define internal noundef i64 @"a::of_a_turn"(i64 noundef %a0) #0 {
+  %r1 = call i64 @llvm.fshl.i64(i64 %a0, i64 %a0, i64 %a0)
+define internal noundef i64 @"a::of_a_signed"(i64 noundef %a0, i64 noundef %a1) #0 {
+  %r2 = ashr exact i64 %a0, %a1
+define internal noundef i32 @"a::of_a_half"(i32 noundef %a0, i32 noundef %a1) #0 {
+  %r2 = shl i32 %a0, %a1
+define internal noundef i64 @"a::by_eight"(i64 noundef %a0) #0 {
+  %r2 = lshr i64 %a0, 8
+END
+wanted="a::of_a_local a::of_a_literal a::of_a_vector a::of_a_turn a::of_a_signed "
+names=$(found module)
+[ "$names" = "$wanted" ]
+count "five of seven functions by hand must be found in the form of a program; found: ${names:-none}" $?
 
 # The halves themselves are shifted, so a form that is no longer read as here is found out.
-halves=$(rt mir halves 2>/dev/null | shifts | awk '$1 ~ /^halves::/ && $2 == 32 && $3 == "variable"' | wc -l)
+halves=$(python3 tests/shifts.py mir halves 2>/dev/null | awk '$1 ~ /^halves::/ && $2 == 32 && $3 == "variable"' | wc -l)
 [ "$halves" -eq 9 ]
 count "halves shifts a half by a variable count at 9 places; seen: $halves" $?
 
-names=$(sed -n 's/^\([a-z0-9_]*\):.*/\1/p' crates.txt)
+names=$(sed -n 's/^\([a-z0-9_]*\)\( *staticlib\)\{0,1\}:.*/\1/p' crates.txt)
 [ "$(printf '%s\n' "$names" | wc -l)" -eq "$(ls crates | wc -l)" ]
 count "crates.txt has as many crates as there are folders" $?
 
 for name in $names; do
-    if ! rt mir "$name" >"$work/form" 2>"$work/err"; then
+    form=mir
+    [ -f "crates/$name/src/main.rt" ] && form=module
+    if ! python3 tests/shifts.py "$form" "$name" >"$work/form" 2>"$work/err"; then
         tail -n 1 "$work/err"
-        count "$name: rt mir failed" 1
+        count "$name: its form is not there" 1
         continue
     fi
-    if grep -qE '^(pub(\([a-z]+\))? )?(extern "C" )?fn ' -r "crates/$name/src" && ! grep -q "(fn-def \"$name::" "$work/form"; then
-        count "$name: rt mir shows none of its functions" 1
+    if grep -qE '^(pub(\([a-z]+\))? )?(extern "C" )?fn ' -r "crates/$name/src" && ! grep -q '^functions [1-9]' "$work/form"; then
+        count "$name: its form has none of its functions" 1
         continue
     fi
-    shifts <"$work/form" | forbidden >"$work/places"
+    forbidden <"$work/form" >"$work/places"
     status=$?
     cat "$work/places"
     [ "$status" -eq 0 ] && [ ! -s "$work/places" ]

@@ -1,4 +1,4 @@
-//! Links the static libraries, which `rt` builds at the root of the repository. `SAMOPUTE_LIB_DIR` names another folder.
+//! Links the static libraries, which `./libraries` makes at the root of the repository. `SAMOPUTE_LIB_DIR` names another folder.
 //! `SAMOPUTE_ACROSS`, for the tests alone, says that those in it are for another processor than x86-64 (tests/across).
 use std::env;
 use std::path::PathBuf;
@@ -28,7 +28,7 @@ fn main() {
         println!("cargo::rerun-if-changed={}", archive.display());
         if !archive.exists() {
             println!(
-                "cargo::error={} is missing: run `rt staticlib {name}` at the root of the repository, \
+                "cargo::error={} is missing: run `./libraries` at the root of the repository, \
                  or set SAMOPUTE_LIB_DIR to the folder that has it",
                 archive.display()
             );

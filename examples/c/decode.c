@@ -1,7 +1,7 @@
 /*
  * Decodes one frame of PGN 129026, course and speed over ground, by its PGN and by a table of our own. Then shows three
  * refusals: of the frame cut short, of one of 129029 that ends before its date, and of a PGN that is not built in. After
- * `rt staticlib samopute_c`, at the root of the repository:
+ * `./libraries`, at the root of the repository:
  *
  *     cc -std=c99 -I include examples/c/decode.c target/staticlib/libsamopute_c.a -o decode && ./decode
  *

@@ -1,7 +1,7 @@
 /*
  * Encodes a frame of PGN 129026, course and speed over ground. Then one with a speed that its field cannot hold, which is
  * refused: 7,600 m/s, that of a satellite, in 16 bits of 0.01 m/s. Then reads a frame, changes its speed and writes it.
- * After `rt staticlib samopute_c`, at the root of the repository:
+ * After `./libraries`, at the root of the repository:
  *
  *     cc -std=c99 -I include examples/c/encode.c target/staticlib/libsamopute_c.a -o encode && ./encode
  *

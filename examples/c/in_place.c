@@ -1,7 +1,7 @@
 /*
  * Reads readings where they stand, without a copy, in two ways: samopute_decode into a buffer that is a struct, the
  * fast way, for machines that put the low byte first; and samopute_decode_run into an array of structs, for any. After
- * `rt staticlib samopute_c` and `rt staticlib samopute_run`, at the root of the repository:
+ * `./libraries`, at the root of the repository:
  *
  *     lib=target/staticlib
  *     cc -std=c99 -I include examples/c/in_place.c $lib/libsamopute_run.a $lib/libsamopute_c.a -o in_place && ./in_place

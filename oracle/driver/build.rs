@@ -1,4 +1,4 @@
-//! Links the libraries under test, which `rt` builds at the root of the repository. They are for x86-64: for another
+//! Links the libraries under test, which `./libraries` makes at the root of the repository. They are for x86-64: for another
 //! processor `tests/across` makes libraries that hand each call to them, in a process under an emulator.
 use std::path::{Path, PathBuf};
 use std::process::Command;
@@ -14,7 +14,7 @@ fn main() {
         if !archive.exists() {
             println!(
                 "cargo::error=target/staticlib/lib{name}.a is missing: \
-                 run `rt staticlib {name}` at the root of the repository first"
+                 run `./libraries` at the root of the repository first"
             );
             return;
         }

@@ -7,9 +7,8 @@
 //!
 //! # Building
 //!
-//! The static libraries come first: `rt staticlib samopute_c` and `rt staticlib samopute_run` at the root of the repository
-//! make them, for x86-64 Linux. The build script looks for both in `target/staticlib` there, or in the folder that
-//! `SAMOPUTE_LIB_DIR` names.
+//! The static libraries come first: `./libraries` at the root of the repository makes them, for x86-64 Linux. The build
+//! script looks for both in `target/staticlib` there, or in the folder that `SAMOPUTE_LIB_DIR` names.
 //!
 //! # Frames in, readings out
 //!

@@ -8,8 +8,7 @@ use tables::Checked;
 
 // Checks a table in words: the answer is 0, or 8 with the place of the rule's letter in the alphabet
 // and the index of the field or the set.
-#[unsafe(no_mangle)]
-pub extern "C" fn samopute_check(words: &[u64], answer: &mut [u64; 3]) -> u32
+pub fn samopute_check(words: &[u64], answer: &mut [u64; 3]) -> u32
     ensures { (result ≡ check_status (check_of (table_of words.now))) × (answer.new ≡ check_cells (check_of (table_of words.now))) }
 {
     match tables::check(words) {

@@ -68,8 +68,7 @@ pub fn told(words: &[u64], received: usize, decoded: Decoded, answer: &mut [u64;
 // number; the six numbers are the count of readings, the length of the working payload if it is the
 // front of the padding run, else 0, the end in bits, or what the refusal carries, and how many bits are
 // one of what refusal 2 counts.
-#[unsafe(no_mangle)]
-pub extern "C" fn samopute_decode(
+pub fn samopute_decode(
     words: &[u64],
     payload: &[u8],
     padding: &mut [u8],
@@ -84,8 +83,7 @@ pub extern "C" fn samopute_decode(
 
 // The same by the table that is built in for a PGN; 15 if there is none. None of them fills the
 // padding run.
-#[unsafe(no_mangle)]
-pub extern "C" fn samopute_decode_pgn(
+pub fn samopute_decode_pgn(
     pgn: u32,
     payload: &[u8],
     padding: &mut [u8],
@@ -107,8 +105,7 @@ pub extern "C" fn samopute_decode_pgn(
 }
 
 // The version of these calls and layouts.
-#[unsafe(no_mangle)]
-pub extern "C" fn samopute_version() -> u32
+pub fn samopute_version() -> u32
     ensures { result ≡ version_of }
 {
     0x3_0000

@@ -30,8 +30,7 @@ fn tell_encoded(answer: &mut [u64; 4], encoded: Encoded) -> u32
 // Encodes values by a table in words into the whole of `payload`; `text` is lent to the values that are
 // texts or bytes. The answer is 0, or the refusal's number; the four numbers are the bytes used, 0 if
 // refused, and what the refusal carries.
-#[unsafe(no_mangle)]
-pub extern "C" fn samopute_encode(
+pub fn samopute_encode(
     words: &[u64],
     values: &[u8],
     text: &[u8],
@@ -63,8 +62,7 @@ fn by_message(
 }
 
 // The same by the table that is built in for a PGN; 15 if there is none.
-#[unsafe(no_mangle)]
-pub extern "C" fn samopute_encode_pgn(
+pub fn samopute_encode_pgn(
     pgn: u32,
     values: &[u8],
     text: &[u8],

@@ -1,4 +1,5 @@
-// The boundary to C and Rust: functions on numbers and byte slices, under plain names.
+// The boundary to C and Rust: functions on numbers and byte slices, under plain names, by which `samopute_c_c` exports
+// them.
 //
 // Promise: each call takes whatever it is given and answers as the crates below do, laid out as specs/
 // says. A status is 0 or document 01's number of the refusal. A bit call's lent `answer` gets the
@@ -24,7 +25,15 @@ mod writes;
 pub use crate::checking::samopute_check;
 pub use crate::decoding::{samopute_decode, samopute_decode_pgn, samopute_version, told};
 pub use crate::encoding::{samopute_encode, samopute_encode_pgn};
+pub use crate::reads::{
+    samopute_advance, samopute_read_slice, samopute_read_u8, samopute_read_u16, samopute_read_u32,
+    samopute_read_u64,
+};
 pub use crate::scaling::{samopute_raw_of, samopute_scale};
+pub use crate::writes::{
+    samopute_write_advance, samopute_write_slice, samopute_write_u8, samopute_write_u16,
+    samopute_write_u32, samopute_write_u64,
+};
 
 // Lays out an accepted answer: its status is 0.
 fn tell(answer: &mut [u64; 3], at: usize, next: Cursor, a: u64, b: u64) -> u32
@@ -55,8 +64,7 @@ fn tell_moved(answer: &mut [u64; 3], at: usize, m: Moved) -> u32
 }
 
 // The bits from the cursor to the end of the buffer, 0 past it.
-#[unsafe(no_mangle)]
-pub extern "C" fn samopute_bits_remaining(buffer: &[u8], cursor: usize) -> usize
+pub fn samopute_bits_remaining(buffer: &[u8], cursor: usize) -> usize
     ensures { result ≡ (remaining_of (length buffer.now) (cursor_at cursor)).0 }
 {
     let from = Cursor { at: BitPos(cursor) };

@@ -6,13 +6,7 @@ ghost use Rattle.samopute_c.specs.Answers.{Laid, of_u64, of_u32, of_u16, of_u8, 
 use crate::{tell, tell_moved, tell_refused};
 use bits::{BitPos, ByteCount, Cursor, ReadSlice, ReadU8, ReadU16, ReadU32, ReadU64};
 
-#[unsafe(no_mangle)]
-pub extern "C" fn samopute_read_u64(
-    buffer: &[u8],
-    cursor: usize,
-    width: u32,
-    answer: &mut [u64; 3],
-) -> u32
+pub fn samopute_read_u64(buffer: &[u8], cursor: usize, width: u32, answer: &mut [u64; 3]) -> u32
     ensures { Laid result answer.new cursor (of_u64 (read_u64_of buffer.now (cursor_at cursor) width)) }
 {
     let from = Cursor { at: BitPos(cursor) };
@@ -22,13 +16,7 @@ pub extern "C" fn samopute_read_u64(
     }
 }
 
-#[unsafe(no_mangle)]
-pub extern "C" fn samopute_read_u32(
-    buffer: &[u8],
-    cursor: usize,
-    width: u32,
-    answer: &mut [u64; 3],
-) -> u32
+pub fn samopute_read_u32(buffer: &[u8], cursor: usize, width: u32, answer: &mut [u64; 3]) -> u32
     ensures { Laid result answer.new cursor (of_u32 (read_u32_of buffer.now (cursor_at cursor) width)) }
 {
     let from = Cursor { at: BitPos(cursor) };
@@ -38,13 +26,7 @@ pub extern "C" fn samopute_read_u32(
     }
 }
 
-#[unsafe(no_mangle)]
-pub extern "C" fn samopute_read_u16(
-    buffer: &[u8],
-    cursor: usize,
-    width: u32,
-    answer: &mut [u64; 3],
-) -> u32
+pub fn samopute_read_u16(buffer: &[u8], cursor: usize, width: u32, answer: &mut [u64; 3]) -> u32
     ensures { Laid result answer.new cursor (of_u16 (read_u16_of buffer.now (cursor_at cursor) width)) }
 {
     let from = Cursor { at: BitPos(cursor) };
@@ -54,13 +36,7 @@ pub extern "C" fn samopute_read_u16(
     }
 }
 
-#[unsafe(no_mangle)]
-pub extern "C" fn samopute_read_u8(
-    buffer: &[u8],
-    cursor: usize,
-    width: u32,
-    answer: &mut [u64; 3],
-) -> u32
+pub fn samopute_read_u8(buffer: &[u8], cursor: usize, width: u32, answer: &mut [u64; 3]) -> u32
     ensures { Laid result answer.new cursor (of_u8 (read_u8_of buffer.now (cursor_at cursor) width)) }
 {
     let from = Cursor { at: BitPos(cursor) };
@@ -70,13 +46,7 @@ pub extern "C" fn samopute_read_u8(
     }
 }
 
-#[unsafe(no_mangle)]
-pub extern "C" fn samopute_advance(
-    buffer: &[u8],
-    cursor: usize,
-    width: u32,
-    answer: &mut [u64; 3],
-) -> u32
+pub fn samopute_advance(buffer: &[u8], cursor: usize, width: u32, answer: &mut [u64; 3]) -> u32
     ensures { Laid result answer.new cursor (of_moved (advance_of (length buffer.now) (cursor_at cursor) width 64)) }
 {
     let from = Cursor { at: BitPos(cursor) };
@@ -84,13 +54,7 @@ pub extern "C" fn samopute_advance(
     tell_moved(answer, cursor, m)
 }
 
-#[unsafe(no_mangle)]
-pub extern "C" fn samopute_read_slice(
-    buffer: &[u8],
-    cursor: usize,
-    count: usize,
-    answer: &mut [u64; 3],
-) -> u32
+pub fn samopute_read_slice(buffer: &[u8], cursor: usize, count: usize, answer: &mut [u64; 3]) -> u32
     ensures { Laid result answer.new cursor (of_slice (read_slice_of (length buffer.now) (cursor_at cursor) count)) }
 {
     let from = Cursor { at: BitPos(cursor) };

@@ -25,8 +25,7 @@ fn tell_scaled(answer: &mut [u64; 4], f: FieldDescriptor, raw: u64) -> u32
 // The value of a raw, by its field. The answer is 0, or the refusal's number; the four numbers are the
 // value's kind and bits, whether it says nothing and the elements that it means as a counter, or what
 // the refusal carries.
-#[unsafe(no_mangle)]
-pub extern "C" fn samopute_scale(
+pub fn samopute_scale(
     kind: u32,
     width: u32,
     is_signed: u32,
@@ -60,8 +59,7 @@ fn tell_raw(answer: &mut [u64; 3], first: u64, second: u64, status: u32) -> u32
 
 // The raw of a value in a field. The answer is 0, or the refusal's number; the three numbers are the
 // raw, or what the refusal carries.
-#[unsafe(no_mangle)]
-pub extern "C" fn samopute_raw_of(
+pub fn samopute_raw_of(
     kind: u32,
     width: u32,
     is_signed: u32,

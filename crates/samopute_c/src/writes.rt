@@ -7,8 +7,7 @@ ghost use Rattle.samopute_c.specs.Clauses.{Writes, WritesSlice};
 use crate::tell_moved;
 use bits::{BitPos, Cursor};
 
-#[unsafe(no_mangle)]
-pub extern "C" fn samopute_write_u64(
+pub fn samopute_write_u64(
     buffer: &mut [u8],
     cursor: usize,
     value: u64,
@@ -22,8 +21,7 @@ pub extern "C" fn samopute_write_u64(
     tell_moved(answer, cursor, m)
 }
 
-#[unsafe(no_mangle)]
-pub extern "C" fn samopute_write_u32(
+pub fn samopute_write_u32(
     buffer: &mut [u8],
     cursor: usize,
     value: u32,
@@ -37,8 +35,7 @@ pub extern "C" fn samopute_write_u32(
     tell_moved(answer, cursor, m)
 }
 
-#[unsafe(no_mangle)]
-pub extern "C" fn samopute_write_u16(
+pub fn samopute_write_u16(
     buffer: &mut [u8],
     cursor: usize,
     value: u16,
@@ -52,8 +49,7 @@ pub extern "C" fn samopute_write_u16(
     tell_moved(answer, cursor, m)
 }
 
-#[unsafe(no_mangle)]
-pub extern "C" fn samopute_write_u8(
+pub fn samopute_write_u8(
     buffer: &mut [u8],
     cursor: usize,
     value: u8,
@@ -67,8 +63,7 @@ pub extern "C" fn samopute_write_u8(
     tell_moved(answer, cursor, m)
 }
 
-#[unsafe(no_mangle)]
-pub extern "C" fn samopute_write_advance(
+pub fn samopute_write_advance(
     buffer: &mut [u8],
     cursor: usize,
     width: u32,
@@ -81,8 +76,7 @@ pub extern "C" fn samopute_write_advance(
     tell_moved(answer, cursor, m)
 }
 
-#[unsafe(no_mangle)]
-pub extern "C" fn samopute_write_slice(
+pub fn samopute_write_slice(
     buffer: &mut [u8],
     cursor: usize,
     source: &[u8],

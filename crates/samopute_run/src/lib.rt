@@ -1,4 +1,4 @@
-// The boundary to C and Rust: a payload into an array of structs.
+// The boundary to C and Rust: a payload into an array of structs. `samopute_run_c` exports it.
 //
 // Promise: `samopute_decode_run` takes whatever it is given. Its status, the six numbers of `answer` and the padding run are
 // those of `samopute_decode`, with as much room as the array has entries; the array holds the structs of `structs`, and every
@@ -12,8 +12,7 @@ use structs::Record;
 
 // Decodes a payload by a table in words into an array of C structs, with room for as many readings as it has entries. The answer is
 // laid out as that of `samopute_decode`.
-#[unsafe(no_mangle)]
-pub extern "C" fn samopute_decode_run(
+pub fn samopute_decode_run(
     words: &[u64],
     payload: &[u8],
     padding: &mut [u8],

@@ -22,14 +22,14 @@ struct Run {
 impl Program {
     /// The program at a path, or where `rt` puts it; else how it is built.
     pub fn find(path: Option<&str>) -> Result<Program, String> {
-        let built = "target/bin/readcalls";
+        let built = "crates/readcalls/out/readcalls";
         let root = Path::new(env!("CARGO_MANIFEST_DIR")).join("../..");
         let place = path.map_or(root.join(built), PathBuf::from);
         if place.is_file() {
             return Ok(Program(place));
         }
         Err(format!(
-            "{} is missing: run `rt check readcalls` at the root of the repository first",
+            "{} is missing: run `rt run </dev/null` in crates/readcalls first",
             path.unwrap_or(built)
         ))
     }
