@@ -18,12 +18,11 @@ use Rattle.fields.specs.Payload.{payload_of}
 use Rattle.reading.specs.declared.Span.{Span}
 use Rattle.reading.specs.declared.Progress.{Progress}
 use Rattle.reading.specs.declared.Reading.{Reading}
-use Rattle.reading.specs.declared.Decoded.{Decoded}
 use Rattle.reading.specs.declared.Decoded.TheVariants as decoded
 use Rattle.reading.specs.Filling.{working_of}
 use Rattle.reading.specs.Decode.{walk_of, readings, spans_of, decoded_of_lem, readings_of}
 use Rattle.reading.specs.Demand3.{Demand3, Free, span_in, unskipped_in, room_enough_lem}
-use Rattle.reading.proofs.Answered.{Decodes, answers, answered, reads, TwoRuns, two_runs, enough-room}
+use Rattle.reading.proofs.Answered.{Decodes, answers, answered, reads, two_runs, enough-room}
 use Rattle.reading.proofs.Demand3.{demand-3}
 use Rattle.lent_readings.specs.Run.{entries_of}
 use Rattle.lent_readings.proofs.OneAnswer.{Decode}

@@ -1,7 +1,5 @@
 -- the turns of a decode into a lent run come to a decode; no memory in it
 pub mod Turns
--- the walk by hand of `decode` here and of `decode_run` of `structs`
-pub mod Walked
 -- every contract leaves one answer and one content of each lent buffer
 pub mod OneAnswer
 -- demands 2 and 3 for `decode`, one number changed between two calls, and how much room is enough

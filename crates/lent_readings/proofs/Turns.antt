@@ -1,15 +1,11 @@
 -- The turns of a decode into a lent run, with no memory in them: where one may begin (`At`), what each leaves (`stored`, `went`), and what holds where they
 -- stop (`ends`). The run is of readings, or of what is made of each. Assumes nothing.
 use mathlib.Core.Path.{◌≡◌, refl, sym, ap, ◌∙◌, subst}
-use mathlib.Core.Bool.{Bool, true, false, not}
+use mathlib.Core.Bool.{Bool, true, false}
 use mathlib.Core.List.{List, [], ◌∷◌, ◌++◌, append-nil}
-use mathlib.Core.WellFounded.InvImage
-use mathlib.Core.WellFounded.{WellFounded}
-use Prim.Native.Nat.{ℕ, suc, ◌+◌, ◌<◌}
+use Prim.Native.Nat.{ℕ, suc, ◌<◌}
 use native.Mathlib.Omega.{arith}
-use lib.WfN.{lt-wf_rel}
-use lib.Dec.{T}
-use lib.ListN.{length, set, length-set}
+use lib.ListN.{length, set}
 use Rattle.bits.specs.Bits.{pick}
 use Rattle.tables.specs.Table.{Table}
 use Rattle.fields.specs.Payload.{Payload, payload_of}
@@ -29,7 +25,6 @@ use Rattle.reading.proofs.Working.{picked-working, ready-accepted}
 use Rattle.lent_readings.specs.declared.Step.{Step}
 use Rattle.lent_readings.specs.Run.{entries_of}
 use Rattle.lent_readings.specs.Steps.{fresh_step, on_step, begun_by, answered_by, turned_by_lem, step_of, padded_after}
-use Rattle.lending.proofs.Tests.{is_true, is_false}
 
 -- what a run holds: something of each reading
 pub record Kind (X : Type 0) : Type 0 where
@@ -38,6 +33,10 @@ pub record Kind (X : Type 0) : Type 0 where
   pub none : all [] ≡ []
   pub more : (rs : List Reading) (r : Reading) → all (rs ++ r ∷ []) ≡ all rs ++ one r ∷ []
   pub long : (rs : List Reading) → length (all rs) ≡ length rs
+
+-- the readings themselves
+abbrev pub itself : Kind Reading
+itself = record { one = λ r. r; all = λ rs. rs; none = refl; more = λ rs r. refl; long = λ rs. refl }
 
 -- one more in a run that has room for it
 set_more : {X : Type 0} (xs ys : List X) (x : X) → length xs < length ys → set (entries_of xs ys) (length xs) x ≡ entries_of (xs ++ x ∷ []) ys
@@ -88,7 +87,7 @@ module _ {X : Type 0} (K : Kind X) (t : Table) (received pad₀ : List ℕ) (ys 
     later : c.fresh ≡ false → ready → (g : Going t p room c.walk) → pad ≡ padding → cur ≡ kept (readings t p g.done) → Holds c pad cur
 
   -- how far it is to the end at most
-  abbrev weight : Step → ℕ
+  abbrev pub weight : Step → ℕ
   weight c = pick c.fresh (suc (heft t p room start_of)) (heft t p room c.walk)
 
   -- what a turn from c leaves
@@ -193,60 +192,9 @@ module _ {X : Type 0} (K : Kind X) (t : Table) (received pad₀ : List ℕ) (ys 
   turns c pad cur (later f ok g q r) =
       leaves c pad cur padding (kept (readings t p g.done)) q r _ padding (stepped c f ok g) (rw f refl) (goes c f ok g (next_of t p room c.walk).answer refl)
 
-  -- ## The loop
-
-  -- a turn's beginning, with what a machine asks of c
-  pub record At (Ok : Step → Type 0) : Type 0 where
-    pub c : Step
-    pub pad : List ℕ
-    pub cur : List X
-    pub ok : Ok c
-    pub same : length cur ≡ length ys
-    pub padded : length pad ≡ length pad₀
-    pub holds : Holds c pad cur
-
-  module _ (Ok : Step → Type 0) where
-    abbrev pub Nearer : At Ok → At Ok → Type 0
-    Nearer x y = weight x.c < weight y.c
-
-    pub Nearer-wf : WellFounded Nearer
-    Nearer-wf = InvImage.wf (λ (x : At Ok). weight x.c) lt-wf_rel.wf
-
-    abbrev pub start : (c : Step) → c ≡ fresh_step → Ok c → At Ok
-    start c e ok = record { c = c; pad = pad₀; cur = ys; ok = ok; same = refl; padded = refl; holds = first e refl refl }
-
-    -- a turn from x that answered d and left the padding run as `pad`
-    module _ (x : At Ok) (d : Step) (pad : List ℕ) (e : (d ≡ step_of t received x.pad room x.c) × (pad ≡ padded_after t received x.pad x.c)) (long : length pad ≡ length x.pad) (ok : Ok d) where
-      pub left : Left x.c x.cur d pad
-      left =
-          subst (λ (y : Step). Left x.c x.cur y pad) (sym e.0)
-          (subst (λ (l : List ℕ). Left x.c x.cur (step_of t received x.pad room x.c) l) (sym e.1) (turns x.c x.pad x.cur x.holds))
-
-      pub in-run : T d.stores → d.place < room
-      in-run h = left.inside (is_true d.stores h)
-
-      pub in-cur : T d.stores → d.place < length x.cur
-      in-cur h = subst (λ (n : ℕ). d.place < n) (sym x.same) (in-run h)
-
-      abbrev pub stored_at : T d.stores → At Ok
-      stored_at h = record {
-        c = d;
-        pad = pad;
-        cur = set x.cur d.place (K.one d.reading);
-        ok = ok;
-        same = length-set x.cur d.place (K.one d.reading) ∙ x.same;
-        padded = long ∙ x.padded;
-        holds = (left.stored (is_true d.stores h)).0;
-      }
-
-      pub stored-nearer : (h : T d.stores) → Nearer (stored_at h) x
-      stored-nearer h = (left.stored (is_true d.stores h)).1
-
-      abbrev pub went-at : T (not d.stores) → T (not d.over) → At Ok
-      went-at h k = record { c = d; pad = pad; cur = x.cur; ok = ok; same = x.same; padded = long ∙ x.padded; holds = (left.went (is_false d.stores h) (is_false d.over k)).0 }
-
-      pub went-nearer : (h : T (not d.stores)) (k : T (not d.over)) → Nearer (went-at h k) x
-      went-nearer h k = (left.went (is_false d.stores h) (is_false d.over k)).1
-
-      pub ends_so : T (not d.stores) → T d.over → (d.decoded ≡ answers) × ((pad ≡ padding) × (x.cur ≡ entries))
-      ends_so h k = left.ends (is_false d.stores h) (is_true d.over k)
+  -- what a turn of the code leaves, which answered d, left the padding run as pad' and had room for n
+  pub left : (c : Step) (pad : List ℕ) (cur : List X) (n : ℕ) (d : Step) (pad' : List ℕ)
+      → Holds c pad cur → n ≡ room → (d ≡ step_of t received pad n c) × (pad' ≡ padded_after t received pad c) → Left c cur d pad'
+  left c pad cur n d pad' h l e =
+      subst (λ (y : Step). Left c cur y pad') (sym (e.0 ∙ ap (λ (m : ℕ). step_of t received pad m c) l))
+      (subst (λ (q : List ℕ). Left c cur (step_of t received pad room c) q) (sym e.1) (turns c pad cur h))

@@ -5,11 +5,13 @@
 // exit what specs/Filling.antt there says. The run of readings holds, from its first entry on, the
 // readings that were made, a refused decode's too; every later entry is as it was. No call has a `requires`.
 //
-// A slice of structs is lent here, so `decode` is proved by a walk of its code, proofs/Walked.antt. What it asks
-// at each turn, `turn`, makes the reading first.
+// What `decode` asks at each turn, `turn`, makes the reading first; that the turns come to a decode is
+// proofs/Turns.antt.
 //
 //     decode          all of it in one call
 //     fresh, turn     turn by turn, for a run of something else that is made of each reading
+#![tactic(auto)]
+
 ghost use Rattle.lent_readings.specs.Clauses.{Decodes};
 
 use reading::{Decoded, Reading, Walk};

@@ -137,7 +137,7 @@ pub fn turn(words: &[u64], received: &[u8], padded: &mut [u8], c: Step, room: us
     turned(reading::next_field(words, s, room, walk), made)
 }
 
-// The parts of a step, for `decode`: a walk of its code that read them itself would have to spell out the whole struct.
+// The parts of a step, for `decode`.
 pub fn stores(c: Step) -> bool
     ensures { result ≡ c.stores }
 {

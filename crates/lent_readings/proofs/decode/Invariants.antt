@@ -1,0 +1,10 @@
+-- Where a turn may begin, and how far it is to the end at most.
+use Rattle.tables.specs.Table.{table_of}
+use Rattle.lent_readings.proofs.Turns.{itself, Holds, weight}
+use Rattle.lent_readings.proofs.decode.Given as goal
+
+abbrev pub invariant-loop-k : goal.invariant-loop-k
+invariant-loop-k l = Holds itself (table_of l.words) l.received l.initial.padded l.initial.out l.c l.padded l.out
+
+abbrev pub decreases-loop-k : goal.decreases-loop-k
+decreases-loop-k l = weight itself (table_of l.words) l.received l.initial.padded l.initial.out l.c
