@@ -4,6 +4,8 @@
 // `lent_readings` does. Each struct is made of its reading, as specs/Structs.antt says; every later entry of the run
 // is as it was. On a machine that puts the low byte first, a struct's 64 bytes are those of its record in
 // `records`: proofs/Same.antt. No call has a `requires`.
+#![tactic(auto)]
+
 ghost use Rattle.std.specs.Prelude.{◌≡◌};
 ghost use Rattle.structs.specs.Structs.{struct_of};
 ghost use Rattle.structs.specs.Clauses.{DecodesRun};
