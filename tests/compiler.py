@@ -42,7 +42,9 @@ def crates():
 
 
 def below(name, among):
-    """The repository's libraries below a crate, each after those that it uses."""
+    """The names of the repository's libraries below a crate, each after those that it uses."""
+    if name not in among:
+        sys.exit(f"crates.txt lists no crate {name}")
     found = []
     for it in among[name].uses:
         if it in among:
@@ -98,7 +100,7 @@ def is_of_this_ci(crate):
 
 def prove(name, among):
     """Has the libraries below a crate, and the crate's own if it is one, proved and built, unless `rt ci` has just done it."""
-    low = [it for it in [*below(name, among), among[name]] if it.is_library()]
+    low = [it for it in [*map(among.get, below(name, among)), among[name]] if it.is_library()]
     if all(map(is_of_this_ci, low)):
         return
     for it in low:
