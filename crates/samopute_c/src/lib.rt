@@ -8,6 +8,8 @@
 // none of which is cut to low bits. Readings come out as records of 64 bytes, and the values of an
 // encode go in as records of 24. No call has a `requires`. A slice is a pointer and a length, and
 // `answer` a pointer to as many numbers as its type says.
+#![tactic(auto)]
+
 ghost use Rattle.std.specs.Prelude.{◌≡◌, length};
 ghost use Rattle.bits.specs.Calls.{cursor_at, remaining_of};
 ghost use Rattle.samopute_c.specs.Answers.{Laid, done, refused, of_moved};
