@@ -1,5 +1,4 @@
--- `answers::put_kind` meets its contract: the name at the code of each kind is that kind. Assumes nothing.
-use borrow.Author.Rules.{rules}
+-- The name at the code of each kind is that kind.
 use mathlib.Core.Path.{◌≡◌, refl, ap, ◌∙◌}
 use mathlib.Core.List.{List, [], ◌∷◌}
 use Prim.Native.Nat.{ℕ}
@@ -10,8 +9,7 @@ use Rattle.numbers.specs.Words.{code_of}
 use Rattle.columns.specs.Parts.{space, parts_of}
 use Rattle.text.proofs.Sheets.{then, same}
 use Rattle.readcalls.specs.Lines.{kind_text}
-use Rattle.readcalls.proofs.answers.put_kind.Statement.{statement}
-use Rattle.readcalls.proofs.answers.put_kind.Tie as tie
+use Rattle.readcalls.proofs.answers.put_kind.Goals as goal
 
 abbrev names : List ℕ
 names = 63 ∷ 32 ∷ 85 ∷ 54 ∷ 52 ∷ 32 ∷ 85 ∷ 51 ∷ 50 ∷ 32 ∷ 85 ∷ 49 ∷ 54 ∷ 32 ∷ 85 ∷ 56 ∷ 32 ∷ 73 ∷ 54 ∷ 52 ∷ 32 ∷ 73 ∷ 51 ∷ 50 ∷ 32 ∷ 73 ∷ 49 ∷ 54 ∷ 32 ∷ 73 ∷ 56 ∷ 32 ∷ 70 ∷ 54 ∷ 52 ∷ 32 ∷ 70 ∷ 51 ∷ 50 ∷ 32 ∷ 66 ∷ 121 ∷ 116 ∷ 101 ∷ 115 ∷ []
@@ -39,29 +37,5 @@ at_code (Bytes x) = refl
 name : (x : PgnValue) {n : ℕ} {s : List ℕ} → n ≡ code_of x → s ≡ get_or (parts_of space names) n [] → 32 ∷ s ≡ kind_text x
 name x {n} e f = ap (λ (s : List ℕ). 32 ∷ s) (f ∙ ap (λ (ps : List (List ℕ)). get_or ps n []) spelled ∙ ap (λ (n : ℕ). get_or kinds n []) e) ∙ at_code x
 
-code-of-requires : tie.Need-code-of-requires
-code-of-requires c κs = search rules
-
-cast-code : tie.Need-overflow-cast-code
-cast-code c = search rules
-
-put-requires : tie.Need-put-requires
-put-requires c κs = search rules
-
-slice-aggregate-word : tie.Need-slice-aggregate-word
-slice-aggregate-word c = search rules
-
-word-requires : tie.Need-word-requires
-word-requires c κs = search rules
-
-put-text-requires : tie.Need-put-text-requires
-put-text-requires c κs = search rules
-
-same_length : tie.Need-same-length
-same_length c = search rules
-
-returns : tie.Need-returns
-returns c = same (name c.before.before.before.before.before.before.before.before.before.before.before.before.args.value c.before.before.before.before.before.before.before.before.before.before.code_of_lem.ensures c.before.before.before.word.ensures) (then c.before.before.before.before.before.before.before.before.put.ensures c.before.before.put-text.ensures)
-
-pub put-kind-spec : {M : Type 1} → statement M
-put-kind-spec = tie.close (tie.spec code-of-requires cast-code put-requires slice-aggregate-word word-requires put-text-requires same_length returns)
+pub returns : goal.returns
+returns c = same (name c.args.value c.code_of-code.ensures c.word.ensures) (then c.put-a.ensures c.put_text.ensures)

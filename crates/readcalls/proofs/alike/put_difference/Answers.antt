@@ -1,0 +1,8 @@
+-- , case by case.
+use mathlib.Core.Path.{sym, ap}
+use Rattle.text.proofs.Sheets.{nothing, same}
+use Rattle.readcalls.specs.Alike.{difference_text}
+use Rattle.readcalls.proofs.alike.put_difference.Goals as goal
+
+pub returns-then-same : goal.returns-then-same
+returns-then-same c = same (sym (ap difference_text c.if-same.true)) (nothing _ _)

@@ -1,0 +1,8 @@
+-- , case by case.
+use mathlib.Core.Path.{sym, ap}
+use Rattle.text.proofs.Sheets.{then, same}
+use Rattle.readcalls.specs.Lines.{encoding_text}
+use Rattle.readcalls.proofs.answers.put_encoding.Goals as goal
+
+pub returns-in-Byte : goal.returns-in-Byte
+returns-in-Byte c = same (sym (ap encoding_text c.in-Byte.is)) (then c.put-a.ensures c.put_pairs.ensures)

@@ -1,0 +1,8 @@
+-- `readcalls::main` is safe and ends.
+use mathlib.Core.Path.{sym}
+use Prim.Native.Nat.{ℕ}
+use lib.ListN.{length-replicate}
+use Rattle.readcalls.proofs.main.Goals as goal
+
+pub slice_bounds-run-end-3 : goal.slice_bounds-run-end-3
+slice_bounds-run-end-3 c = sym (length-replicate {A = ℕ} 524288 0)
