@@ -1,18 +1,15 @@
--- The loop of `encode`, with no memory in it: where a turn may begin (`St`), what a turn makes of it (`more`, `again`), that it comes nearer, and what
+-- The loop of `encode`, with no memory in it: where a turn may begin (`Course`), what a turn makes of it (`more`, `again`), that it comes nearer, and what
 -- holds where it stops (`ends`). Assumes nothing.
 use mathlib.Core.Path.{◌≡◌, refl, sym, ap, ◌∙◌, subst}
-use mathlib.Core.Bool.{Bool, true, false, not}
+use mathlib.Core.Bool.{Bool, true, false}
 use mathlib.Core.List.{List}
-use mathlib.Core.WellFounded.InvImage
-use mathlib.Core.WellFounded.{WellFounded}
 use Prim.Native.Nat.{ℕ, suc, ◌<◌}
 use native.Mathlib.Omega.{arith}
-use lib.WfN.{lt-wf_rel}
-use lib.Dec.{T, ltb, ltb→lt}
+use lib.Dec.{ltb}
 use lib.ListN.{length, get_or, replicate}
+use Rattle.std.proofs.lemmas.List.{get_or_default}
 use borrow.Author.Tests.{lt-ltb, le-ltb, ltb-true}
 use Rattle.bits.specs.Bits.{pick}
-use Rattle.lending.proofs.Tests.{is_true, is_false}
 use Rattle.descriptor.specs.declared.PgnValue.{PgnValue}
 use Rattle.descriptor.specs.declared.PgnValue.TheVariants.{U8}
 use Rattle.tables.specs.Table.{Table}
@@ -42,7 +39,7 @@ some false v h e = let y : ◌≡◌ {A = ℕ} 0 1 = cc in absurd (omega arith)
 pub listed : (vs : List PgnValue) → Listed (values_of vs)
 listed vs = record { past = λ j l. rw (le-ltb j (length vs) l); here = λ j l e. some (ltb j (length vs)) _ (lt-ltb j (length vs) l) e }
 
-module _ (t : Table) (vs : List PgnValue) (lent buffer : List ℕ) (Ok : Step → Type 0) (Fits : PgnValue → Type 0) where
+module _ (t : Table) (vs : List PgnValue) (lent buffer : List ℕ) where
   abbrev size : ℕ
   size = length buffer
 
@@ -58,24 +55,9 @@ module _ (t : Table) (vs : List PgnValue) (lent buffer : List ℕ) (Ok : Step �
     new : (v : PgnValue) → Course fresh_step v buffer
     on : (ready : begun_of t size ≡ begun.Ready) (d : Draft) (v : PgnValue) (cur : List ℕ) → Going t (values_of vs) lent size d cur → Stands d v → Course (going_on_lem count d) v cur
 
-  pub record St : Type 0 where
-    pub c : Step
-    pub v : PgnValue
-    pub cur : List ℕ
-    pub ok : Ok c
-    pub fits : Fits v
-    pub same : length cur ≡ size
-    pub course : Course c v cur
-
   -- the turns that are left
-  abbrev left : Step → ℕ
+  abbrev pub left : Step → ℕ
   left c = pick c.fresh (suc (heft t (values_of vs) lent size start_of)) (heft t (values_of vs) lent size c.draft)
-
-  abbrev pub Nearer : St → St → Type 0
-  Nearer a b = left a.c < left b.c
-
-  pub Nearer-wf : WellFounded Nearer
-  Nearer-wf = InvImage.wf (λ (s : St). left s.c) lt-wf_rel.wf
 
   -- what a turn comes to, from a step with n turns left
   pub record After (n : ℕ) (c : Step) (cur : List ℕ) : Type 0 where
@@ -124,65 +106,53 @@ module _ (t : Table) (vs : List PgnValue) (lent buffer : List ℕ) (Ok : Step �
   step_after (new v) = first-after (begun_of t size) refl
   step_after (on ready d v cur g h) = next-after ready d v cur g h
 
+  -- where a walk begins
+  pub begins : (c : Step) (v : PgnValue) → c ≡ fresh_step → Course c v buffer
+  begins c v e = subst (λ (x : Step). Course x v buffer) (sym e) (new v)
+
   -- one turn: the step that it answers, and what it leaves in the buffer
-  module _ (s : St) (c : Step) (zs : List ℕ) (e : c ≡ step_of t (length lent) (length s.cur) s.c s.v count) (f : zs ≡ left_in t lent s.cur s.c s.v count) (l : length zs ≡ length s.cur) where
-    pub after : After (left s.c) c zs
-    after = subst (λ (x : Step). After (left s.c) x zs) (sym e) (subst (After (left s.c) (step_of t (length lent) (length s.cur) s.c s.v count)) (sym f) (step_after s.course))
+  module _ (b : Step) (v : PgnValue) (cur : List ℕ) (course : Course b v cur) (c : Step) (zs : List ℕ) (e : (c ≡ step_of t (length lent) (length cur) b v count) × (zs ≡ left_in t lent cur b v count)) where
+    pub after : After (left b) c zs
+    after = subst (λ (x : Step). After (left b) x zs) (sym e.0) (subst (After (left b) (step_of t (length lent) (length cur) b v count)) (sym e.1) (step_after course))
 
     -- where the next value is wanted
-    module _ (w : T c.wants) where
+    module _ (w : c.wants ≡ true) where
       pub on-still : c.over ≡ false
       on-still = go c.over refl
         where
-          go : (b : Bool) → c.over ≡ b → b ≡ false
-          go true k = absurd (subst T (after.stops k).0 w)
+          go : (o : Bool) → c.over ≡ o → o ≡ false
+          go true k = let f : c.wants ≡ false = (after.stops k).0 in cc
           go false k = refl
 
       pub is : c ≡ going_on_lem count c.draft
       is = (after.goes on-still).1.0
 
       pub inside : c.place < length vs
-      inside = subst (λ (m : ℕ). m < length vs) (sym (ap (λ (x : Step). x.place) is)) (ltb→lt c.draft.pen.used count (subst T (ap (λ (x : Step). x.wants) is) w))
+      inside = subst (λ (m : ℕ). m < length vs) (sym (ap (λ (x : Step). x.place) is)) (ltb-true _ _ (sym (ap (λ (x : Step). x.wants) is) ∙ w))
 
-      abbrev pub more : Ok c → Fits (get_or vs c.place (U8 0)) → St
-      more ok fits = record {
-        c = c;
-        v = get_or vs c.place (U8 0);
-        cur = zs;
-        ok = ok;
-        fits = fits;
-        same = l ∙ s.same;
-        course = subst (λ (x : Step). Course x (get_or vs c.place (U8 0)) zs) (sym is) (on (after.goes on-still).0 c.draft (get_or vs c.place (U8 0)) zs (after.goes on-still).1.1.0 (λ _. ap (λ (x : Step). get_or vs x.place (U8 0)) is));
-      }
+      -- the value that stands at the place, whatever would be read past the last one
+      pub more : (u : PgnValue) → Course c (get_or vs c.place u) zs
+      more u =
+          subst (λ (y : PgnValue). Course c y zs) (get_or_default vs c.place (U8 0) u inside)
+          (subst (λ (x : Step). Course x (get_or vs c.place (U8 0)) zs) (sym is) (on (after.goes on-still).0 c.draft (get_or vs c.place (U8 0)) zs (after.goes on-still).1.1.0 (λ _. ap (λ (x : Step). get_or vs x.place (U8 0)) is)))
 
-      pub nearer : (ok : Ok c) (fits : Fits (get_or vs c.place (U8 0))) → Nearer (more ok fits) s
-      nearer ok fits = (after.goes on-still).1.1.1
+      pub nearer : left c < left b
+      nearer = (after.goes on-still).1.1.1
 
     -- where it is not
-    module _ (w : T (not c.wants)) where
-      pub ends : T c.over → (c.encoded ≡ encoded_of t (values_of vs) (length lent) size) × (zs ≡ buffer_after t (values_of vs) lent buffer)
-      ends o = (after.stops (is_true c.over o)).1
+    module _ (w : c.wants ≡ false) where
+      pub ends : c.over ≡ true → (c.encoded ≡ encoded_of t (values_of vs) (length lent) size) × (zs ≡ buffer_after t (values_of vs) lent buffer)
+      ends o = (after.stops o).1
 
-      module _ (o : T (not c.over)) where
+      module _ (o : c.over ≡ false) where
         pub still : c ≡ going_on_lem count c.draft
-        still = (after.goes (is_false c.over o)).1.0
+        still = (after.goes o).1.0
 
-        pub none : c.draft.pen.used < count → s.v ≡ get_or vs c.draft.pen.used (U8 0)
-        none h = absurd (subst (λ (b : Bool). T (not b)) (ap (λ (x : Step). x.wants) still ∙ lt-ltb _ _ h) w)
+        pub none : c.draft.pen.used < count → v ≡ get_or vs c.draft.pen.used (U8 0)
+        none h = let f : ltb c.draft.pen.used count ≡ false = sym (ap (λ (x : Step). x.wants) still) ∙ w in let g = lt-ltb _ _ h in cc
 
-        abbrev pub again : Ok c → St
-        again ok = record {
-          c = c;
-          v = s.v;
-          cur = zs;
-          ok = ok;
-          fits = s.fits;
-          same = l ∙ s.same;
-          course = subst (λ (x : Step). Course x s.v zs) (sym still) (on (after.goes (is_false c.over o)).0 c.draft s.v zs (after.goes (is_false c.over o)).1.1.0 none);
-        }
+        pub again : Course c v zs
+        again = subst (λ (x : Step). Course x v zs) (sym still) (on (after.goes o).0 c.draft v zs (after.goes o).1.1.0 none)
 
-        pub closer : (ok : Ok c) → Nearer (again ok) s
-        closer ok = (after.goes (is_false c.over o)).1.1.1
-
-  abbrev pub start : (v : PgnValue) → Ok fresh_step → Fits v → St
-  start v ok fits = record { c = fresh_step; v = v; cur = buffer; ok = ok; fits = fits; same = refl; course = new v }
+        pub closer : left c < left b
+        closer = (after.goes o).1.1.1

@@ -5,6 +5,8 @@
 // is specs/Encode.antt there. The buffer at exit is that of specs/Encode.antt too. It has no `requires`.
 //
 // `encode` alone touches the lent values, one at a time; `steps` has the walk, turn by turn.
+#![tactic(auto)]
+
 ghost use Rattle.lent_values.specs.Clauses.{Encodes};
 
 use descriptor::PgnValue;
