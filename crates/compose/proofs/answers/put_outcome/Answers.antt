@@ -1,0 +1,8 @@
+-- By the answer of the encode.
+use mathlib.Core.Path.{sym, ap}
+use Rattle.text.proofs.Sheets.{then, same}
+use Rattle.compose.specs.Answers.{outcome_text}
+use Rattle.compose.proofs.answers.put_outcome.Goals as goal
+
+pub returns-in-Ended : goal.returns-in-Ended
+returns-in-Ended c = same (sym (ap outcome_text c.in-Ended.is)) (then c.put-a.ensures c.put_number.ensures)
