@@ -104,7 +104,7 @@ positive : (n : ℕ) → (n ≡ 0 → ⊥) → 0 < n
 positive n h = omega arith
 
 pub zeros-lt : (n : ℕ) → (n ≡ 0 → ⊥) → n < 2 ^ 64 → count_leading_zeros 64 n < 64
-zeros-lt n N h = normalized n (positive n N) h .0
+zeros-lt n N h = (normalized n (positive n N) h).0
 
 pub record Rounds (f : Format) (c n q : ℕ) : Type 0 where
   pub few : q ≤ 2 ^ prec f
