@@ -6,6 +6,8 @@
 //
 // It is a library of its own, so that what it shares with `samopute_decode` is compiled into each by itself: in one library the other
 // call took a fifth longer.
+#![tactic(auto)]
+
 ghost use Rattle.samopute_run.specs.Clauses.{DecodesRun};
 
 use structs::Record;
