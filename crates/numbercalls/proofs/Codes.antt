@@ -13,8 +13,8 @@ use Rattle.columns.specs.Names.{same, place_in}
 use Rattle.columns.specs.Runs.{dash}
 use Rattle.columns.specs.declared.Number.{Number}
 use Rattle.columns.proofs.Cuts.{parts-marks}
-use Rattle.numbercalls.specs.declared.fields.Code.{Code}
-use Rattle.numbercalls.specs.declared.fields.Field.{Field}
+use Rattle.numbercalls.specs.declared.line_fields.Code.{Code}
+use Rattle.numbercalls.specs.declared.line_fields.Field.{Field}
 use Rattle.numbercalls.specs.Names.{kind_names, sign_names, mark_names}
 use Rattle.numbercalls.specs.Fields.{no_code_lem, code_max, code_if_lem, placed, numbered, named, bits_by, kind_in, width_in, sign_in, mark_in, resolution_in, field_by_lem, field_in}
 

@@ -1,7 +1,7 @@
 -- What the program prints, over any list of calls, whatever their chunks and their pages. Assumes nothing.
 use mathlib.Core.Path.{◌≡◌, refl}
 use mathlib.Core.List.{[], ◌∷◌, ◌++◌}
-use Prim.Native.Nat.{ℕ, ◌≤◌}
+use Prim.Native.Nat.{ℕ}
 use native.Mathlib.Omega.{arith}
 use Rattle.text.specs.Refusals.{malformed_text}
 use Rattle.columns.specs.Parts.{parts_of}

@@ -14,8 +14,8 @@ use Rattle.columns.specs.declared.Number.{Number}
 use Rattle.offers.specs.Records.{offer_of_lem}
 use Rattle.samopute_c.specs.Values.{scale_status, scale_cells}
 use Rattle.samopute_c.specs.Clauses.{GivesRaw}
-use Rattle.numbercalls.specs.declared.fields.Code.{Code}
-use Rattle.numbercalls.specs.declared.fields.Field.{Field}
+use Rattle.numbercalls.specs.declared.line_fields.Code.{Code}
+use Rattle.numbercalls.specs.declared.line_fields.Field.{Field}
 use Rattle.numbercalls.specs.Names.{value_kind_names, scale_name, raw_name}
 use Rattle.numbercalls.specs.Fields.{placed, field_in}
 use Rattle.numbercalls.specs.Answers.{refusal_text, silence_text, value_text, scale_answer, ok_text, raw_answer, descriptor_of, scale_call, raw_call, scale_text, is_kind_lem, raw_text, is_call, call_text, answer_text}

@@ -12,8 +12,8 @@ use Rattle.descriptor.specs.declared.FieldDescriptor.{FieldDescriptor}
 use Rattle.numbers.specs.Refusals.{number_of}
 use Rattle.offers.specs.Records.{offer_of_lem}
 use Rattle.samopute_c.specs.Values.{field_of, scale_status, scale_cells, raw_offered, raw_cells}
-use Rattle.numbercalls.specs.declared.fields.Code.{Code}
-use Rattle.numbercalls.specs.declared.fields.Field.{Field}
+use Rattle.numbercalls.specs.declared.line_fields.Code.{Code}
+use Rattle.numbercalls.specs.declared.line_fields.Field.{Field}
 use Rattle.numbercalls.specs.Names.{value_kind_names, scale_name, raw_name}
 use Rattle.numbercalls.specs.Fields.{placed, field_in}
 

@@ -5,8 +5,8 @@ use Rattle.columns.specs.Parts.{field}
 use Rattle.columns.specs.Numbers.{decimal_in, hex_in}
 use Rattle.columns.specs.Names.{same, place_in}
 use Rattle.columns.specs.Runs.{dash}
-use Rattle.numbercalls.specs.declared.fields.Code.{Code}
-use Rattle.numbercalls.specs.declared.fields.Field.{Field}
+use Rattle.numbercalls.specs.declared.line_fields.Code.{Code}
+use Rattle.numbercalls.specs.declared.line_fields.Field.{Field}
 use Rattle.numbercalls.specs.Names.{kind_names, sign_names, mark_names}
 
 -- ## A code: a number of 32 bits, where there is one

@@ -3,7 +3,7 @@ ghost use Rattle.std.specs.Prelude.{◌≡◌};
 ghost use Rattle.text.specs.Sheet.{Puts};
 ghost use Rattle.numbercalls.specs.Answers.{refusal_text, silence_text, value_text, scale_answer, scale_text, ok_text, raw_answer, is_kind_lem, raw_text};
 
-use crate::fields::{Code, Field, place_of};
+use crate::line_fields::{Code, Field, place_of};
 use columns::word;
 use text::{put_malformed, put_refused, put_text, put_value};
 

@@ -21,7 +21,7 @@
 #![tactic(auto)]
 
 mod calls;
-mod fields;
+mod line_fields;
 mod replies;
 
 use std::io::{Read, Write};

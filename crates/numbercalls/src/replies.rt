@@ -5,7 +5,7 @@ ghost use Rattle.numbercalls.specs.Answers.{is_call, call_text, answer_text, ans
 ghost use Rattle.numbercalls.specs.Clauses.{Passes};
 
 use crate::calls::{put_raw, put_scale};
-use crate::fields::{Field, field_of};
+use crate::line_fields::{Field, field_of};
 use columns::{same, word};
 use text::{put, put_malformed};
 
