@@ -1,4 +1,4 @@
--- The turns of a decode into a lent run, with no memory in them: where one may begin (`At`), what each leaves (`stored`, `went`), and what holds where they
+-- The turns of a decode into a lent run, with no memory in them: where one may begin (`Holds`), what each leaves (`stored`, `went`), and what holds where they
 -- stop (`ends`). The run is of readings, or of what is made of each. Assumes nothing.
 use mathlib.Core.Path.{◌≡◌, refl, sym, ap, ◌∙◌, subst}
 use mathlib.Core.Bool.{Bool, true, false}

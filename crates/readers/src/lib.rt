@@ -14,7 +14,7 @@ use bits::{BitPos, ByteCount, Cursor, Moved, ReadSlice, ReadU8, ReadU16, ReadU32
 
 mod after;
 
-#[derive(Drop)]
+#[derive(Clone, Copy)]
 pub struct BitReader<'a> {
     pub src: &'a [u8],
     pub cursor: Cursor,

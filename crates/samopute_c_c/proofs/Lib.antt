@@ -1,0 +1,2 @@
+-- every contract leaves one answer and one content of each lent buffer
+pub mod OneAnswer
