@@ -193,8 +193,14 @@ module _ {X : Type 0} (K : Kind X) (t : Table) (received pad₀ : List ℕ) (ys 
       leaves c pad cur padding (kept (readings t p g.done)) q r _ padding (stepped c f ok g) (rw f refl) (goes c f ok g (next_of t p room c.walk).answer refl)
 
   -- what a turn of the code leaves, which answered d, left the padding run as pad' and had room for n
-  pub left : (c : Step) (pad : List ℕ) (cur : List X) (n : ℕ) (d : Step) (pad' : List ℕ)
+  pub left : {c : Step} {pad : List ℕ} {cur : List X} {n : ℕ} {d : Step} {pad' : List ℕ}
       → Holds c pad cur → n ≡ room → (d ≡ step_of t received pad n c) × (pad' ≡ padded_after t received pad c) → Left c cur d pad'
-  left c pad cur n d pad' h l e =
+  left {c} {pad} {cur} {n} {d} {pad'} h l e =
       subst (λ (y : Step). Left c cur y pad') (sym (e.0 ∙ ap (λ (m : ℕ). step_of t received pad m c) l))
       (subst (λ (q : List ℕ). Left c cur (step_of t received pad room c) q) (sym e.1) (turns c pad cur h))
+
+  -- where the next turn begins once the reading is stored, at its place n and as x
+  pub stored-at : {c : Step} {cur : List X} {d : Step} {pad : List ℕ} {n : ℕ} {x : X}
+      → Left c cur d pad → d.stores ≡ true → n ≡ d.place → x ≡ K.one d.reading → Holds d pad (set cur n x)
+  stored-at {c} {cur} {d} {pad} {n} {x} l s e f =
+      subst (λ (m : ℕ). Holds d pad (set cur m x)) (sym e) (subst (λ (y : X). Holds d pad (set cur d.place y)) (sym f) (l.stored s).0)

@@ -17,13 +17,13 @@ use Rattle.writing.proofs.Listing.{listed}
 use Rattle.writing.proofs.encodes.written.Goals as goal
 
 -- what a turn of the loop leaves: of the offer, the answer and the buffer that its calls are known to give
-left : (words values lent : List ℕ) (n : ℕ) (d : Draft) (b : List ℕ) (o : Offer) (x : Stroked) (after : List ℕ)
+left : (words values : List ℕ) {lent : List ℕ} {n : ℕ} {d : Draft} {b : List ℕ} {o : Offer} {x : Stroked} {after : List ℕ}
     → check_of (table_of words) ≡ Accepted → Going (table_of words) (values_in values) lent n d b
     → o ≡ (values_in values).offered d.pen.used
     → x ≡ stroked_of (table_of words) o (length lent) (length b) d
     → after ≡ left_of (table_of words) o lent b d
     → Turned (table_of words) (values_in values) lent n d x after
-left words values lent n d b o x after accepted g eo ex ea =
+left words values {lent} {n} {d} {b} {o} {x} {after} accepted g eo ex ea =
     let t = table_of words in
     let vs = values_in values in
     let e = ex ∙ ap (λ (y : Offer). stroked_of t y (length lent) (length b) d) eo in
@@ -41,34 +41,42 @@ loop-refusal-init c =
 
 pub loop-refusal-smaller-in-Wrote : goal.loop-refusal-smaller-in-Wrote
 loop-refusal-smaller-in-Wrote c =
-    ((left c.args.words.now c.args.values.now c.args.lent.now (length c.args.buffer.now) c.loop-refusal.draft c.loop-refusal.buffer c.offer_at-offer.result c.write_next-next.result c.write_next-next.new.buffer c.loop-refusal.invariant.0 c.loop-refusal.invariant.1 c.offer_at-offer.ensures c.write_next-next.ensures.0 c.write_next-next.ensures.1).on (ap goes_on_lem c.in-Wrote.is)).1
+    let l = left c.args.words.now c.args.values.now c.loop-refusal.invariant.0 c.loop-refusal.invariant.1 c.offer_at-offer.ensures c.write_next-next.ensures.0 c.write_next-next.ensures.1 in
+    (l.on (ap goes_on_lem c.in-Wrote.is)).1
 
 pub loop-refusal-preserved-in-Wrote : goal.loop-refusal-preserved-in-Wrote
 loop-refusal-preserved-in-Wrote c =
-    (c.loop-refusal.invariant.0, ((left c.args.words.now c.args.values.now c.args.lent.now (length c.args.buffer.now) c.loop-refusal.draft c.loop-refusal.buffer c.offer_at-offer.result c.write_next-next.result c.write_next-next.new.buffer c.loop-refusal.invariant.0 c.loop-refusal.invariant.1 c.offer_at-offer.ensures c.write_next-next.ensures.0 c.write_next-next.ensures.1).on (ap goes_on_lem c.in-Wrote.is)).0)
+    let l = left c.args.words.now c.args.values.now c.loop-refusal.invariant.0 c.loop-refusal.invariant.1 c.offer_at-offer.ensures c.write_next-next.ensures.0 c.write_next-next.ensures.1 in
+    (c.loop-refusal.invariant.0, (l.on (ap goes_on_lem c.in-Wrote.is)).0)
 
 pub loop-refusal-smaller-in-Skipped : goal.loop-refusal-smaller-in-Skipped
 loop-refusal-smaller-in-Skipped c =
-    ((left c.args.words.now c.args.values.now c.args.lent.now (length c.args.buffer.now) c.loop-refusal.draft c.loop-refusal.buffer c.offer_at-offer.result c.write_next-next.result c.write_next-next.new.buffer c.loop-refusal.invariant.0 c.loop-refusal.invariant.1 c.offer_at-offer.ensures c.write_next-next.ensures.0 c.write_next-next.ensures.1).on (ap goes_on_lem c.in-Skipped.is)).1
+    let l = left c.args.words.now c.args.values.now c.loop-refusal.invariant.0 c.loop-refusal.invariant.1 c.offer_at-offer.ensures c.write_next-next.ensures.0 c.write_next-next.ensures.1 in
+    (l.on (ap goes_on_lem c.in-Skipped.is)).1
 
 pub loop-refusal-preserved-in-Skipped : goal.loop-refusal-preserved-in-Skipped
 loop-refusal-preserved-in-Skipped c =
-    (c.loop-refusal.invariant.0, ((left c.args.words.now c.args.values.now c.args.lent.now (length c.args.buffer.now) c.loop-refusal.draft c.loop-refusal.buffer c.offer_at-offer.result c.write_next-next.result c.write_next-next.new.buffer c.loop-refusal.invariant.0 c.loop-refusal.invariant.1 c.offer_at-offer.ensures c.write_next-next.ensures.0 c.write_next-next.ensures.1).on (ap goes_on_lem c.in-Skipped.is)).0)
+    let l = left c.args.words.now c.args.values.now c.loop-refusal.invariant.0 c.loop-refusal.invariant.1 c.offer_at-offer.ensures c.write_next-next.ensures.0 c.write_next-next.ensures.1 in
+    (c.loop-refusal.invariant.0, (l.on (ap goes_on_lem c.in-Skipped.is)).0)
 
 pub loop-refusal-smaller : goal.loop-refusal-smaller
 loop-refusal-smaller c =
-    ((left c.args.words.now c.args.values.now c.args.lent.now (length c.args.buffer.now) c.loop-refusal.draft c.loop-refusal.buffer c.offer_at-offer.result c.write_next-next.result c.write_next-next.new.buffer c.loop-refusal.invariant.0 c.loop-refusal.invariant.1 c.offer_at-offer.ensures c.write_next-next.ensures.0 c.write_next-next.ensures.1).on (ap goes_on_lem c.in-Moved.is)).1
+    let l = left c.args.words.now c.args.values.now c.loop-refusal.invariant.0 c.loop-refusal.invariant.1 c.offer_at-offer.ensures c.write_next-next.ensures.0 c.write_next-next.ensures.1 in
+    (l.on (ap goes_on_lem c.in-Moved.is)).1
 
 pub loop-refusal-preserved : goal.loop-refusal-preserved
 loop-refusal-preserved c =
-    (c.loop-refusal.invariant.0, ((left c.args.words.now c.args.values.now c.args.lent.now (length c.args.buffer.now) c.loop-refusal.draft c.loop-refusal.buffer c.offer_at-offer.result c.write_next-next.result c.write_next-next.new.buffer c.loop-refusal.invariant.0 c.loop-refusal.invariant.1 c.offer_at-offer.ensures c.write_next-next.ensures.0 c.write_next-next.ensures.1).on (ap goes_on_lem c.in-Moved.is)).0)
+    let l = left c.args.words.now c.args.values.now c.loop-refusal.invariant.0 c.loop-refusal.invariant.1 c.offer_at-offer.ensures c.write_next-next.ensures.0 c.write_next-next.ensures.1 in
+    (c.loop-refusal.invariant.0, (l.on (ap goes_on_lem c.in-Moved.is)).0)
 
 pub returns-in-Ended : goal.returns-in-Ended
 returns-in-Ended c =
-    let h = (left c.args.words.now c.args.values.now c.args.lent.now (length c.args.buffer.now) c.loop-refusal.draft c.loop-refusal.buffer c.offer_at-offer.result c.write_next-next.result c.write_next-next.new.buffer c.loop-refusal.invariant.0 c.loop-refusal.invariant.1 c.offer_at-offer.ensures c.write_next-next.ensures.0 c.write_next-next.ensures.1).ends c.in-Ended.is in
+    let l = left c.args.words.now c.args.values.now c.loop-refusal.invariant.0 c.loop-refusal.invariant.1 c.offer_at-offer.ensures c.write_next-next.ensures.0 c.write_next-next.ensures.1 in
+    let h = l.ends c.in-Ended.is in
     (ap encoded.Ended c.bytes_used.ensures ∙ sym h.0, h.1)
 
 pub returns-in-Refused : goal.returns-in-Refused
 returns-in-Refused c =
-    let h = (left c.args.words.now c.args.values.now c.args.lent.now (length c.args.buffer.now) c.loop-refusal.draft c.loop-refusal.buffer c.offer_at-offer.result c.write_next-next.result c.write_next-next.new.buffer c.loop-refusal.invariant.0 c.loop-refusal.invariant.1 c.offer_at-offer.ensures c.write_next-next.ensures.0 c.write_next-next.ensures.1).stops _ c.in-Refused.is in
+    let l = left c.args.words.now c.args.values.now c.loop-refusal.invariant.0 c.loop-refusal.invariant.1 c.offer_at-offer.ensures c.write_next-next.ensures.0 c.write_next-next.ensures.1 in
+    let h = l.stops _ c.in-Refused.is in
     (sym h.0, h.1)

@@ -1,8 +1,10 @@
 -- The walk stands after what was weighed.
 use mathlib.Core.Path.{◌≡◌, sym, ap, ap₂, ◌∙◌, subst}
+use Prim.Native.Nat.{ℕ}
 use Rattle.bits.specs.declared.BitPos.{BitPos}
 use Rattle.descriptor.specs.declared.FieldDescriptor.{FieldDescriptor}
 use Rattle.tables.specs.Table.{table_of}
+use Rattle.offers.specs.declared.Offer.{Offer}
 use Rattle.weighing.specs.declared.Weighed.{Weighed}
 use Rattle.writing.specs.Encode.{content_of_lem, settled}
 use Rattle.walking.specs.declared.Spot.{Spot}
@@ -15,19 +17,26 @@ use Rattle.writing.proofs.Contents.{content-in}
 use Rattle.writing.proofs.Turning.{settled-shown}
 use Rattle.writing.proofs.strokes.meet.Goals as goal
 
+-- what was weighed, once the field is known to be the table's
+weighed : (o : Offer) {f g : FieldDescriptor} (i lent size at : ℕ) {v : Weighed}
+    → v ≡ content_of_lem o f i lent size at → f ≡ g → v ≡ content_of_lem o g i lent size at
+weighed o i lent size at e h = e ∙ ap (λ (d : FieldDescriptor). content_of_lem o d i lent size at) h
+
 pub pen_after-after-requires : goal.pen_after-after-requires
 pen_after-after-requires c =
-    let was : c.content_of-content.result ≡ content_of_lem c.args.offer ((table_of c.args.words.now).field c.args.i) c.args.i c.args.lent c.args.size c.args.pen.at.0 =
-    c.content_of-content.ensures ∙ ap (λ (f : FieldDescriptor). content_of_lem c.args.offer f c.args.i c.args.lent c.args.size c.args.pen.at.0) c.field_at-f.ensures in
-    subst (λ (x : Weighed). Reaches c.args.pen.at.0 x) (sym was) (content-in c.args.size c.args.pen.at.0 c.args.lent c.args.offer ((table_of c.args.words.now).field c.args.i) c.args.i)
+    let a = c.args in
+    let was = weighed a.offer a.i a.lent a.size a.pen.at.0 c.content_of-content.ensures c.field_at-f.ensures in
+    subst (λ (x : Weighed). Reaches a.pen.at.0 x) (sym was) (content-in a.size a.pen.at.0 a.lent a.offer ((table_of a.words.now).field a.i) a.i)
 
 pub returns : goal.returns
 returns c =
-    let was : c.content_of-content.result ≡ content_of_lem c.args.offer ((table_of c.args.words.now).field c.args.i) c.args.i c.args.lent c.args.size c.args.pen.at.0 =
-    c.content_of-content.ensures ∙ ap (λ (f : FieldDescriptor). content_of_lem c.args.offer f c.args.i c.args.lent c.args.size c.args.pen.at.0) c.field_at-f.ensures in
-    let t = table_of c.args.words.now in
-    ap (λ (k : Stroked). weighing_to k c.content_of-content.result)
-    (c.stroked.ensures
-    ∙ ap₂ (λ (k : Stroke) (z : Spot × Pen). stroked_to k z.0 z.1) (c.stroke_of-stroke.ensures ∙ ap (λ (b : BitPos). stroke_by c.content_of-content.result (record { field = c.args.i; element = c.args.e; start = c.args.pen.at; bits = b })) c.size_of-bits.ensures) (ap₂ (λ (u : Spot) (v : Pen). (u, v)) c.spot_after-spot.ensures c.pen_after-after.ensures)
-    ∙ settled-shown t c.args.offer c.args.here c.args.i c.args.e c.args.pen c.args.to c.content_of-content.result)
-    ∙ ap (λ (v : Weighed). weighing_to (shown t c.args.offer c.args.here (seen c.args.to c.args.pen (settled t c.args.i c.args.e c.args.pen v))) v) was
+    let a = c.args in
+    let t = table_of a.words.now in
+    let content = c.content_of-content.result in
+    let was = weighed a.offer a.i a.lent a.size a.pen.at.0 c.content_of-content.ensures c.field_at-f.ensures in
+    let stroke = c.stroke_of-stroke.ensures ∙ ap (λ (b : BitPos). stroke_by content (record { field = a.i; element = a.e; start = a.pen.at; bits = b })) c.size_of-bits.ensures in
+    let stands = ap₂ (λ (u : Spot) (v : Pen). (u, v)) c.spot_after-spot.ensures c.pen_after-after.ensures in
+    ap (λ (k : Stroked). weighing_to k content)
+    (c.stroked.ensures ∙ ap₂ (λ (k : Stroke) (z : Spot × Pen). stroked_to k z.0 z.1) stroke stands
+    ∙ settled-shown t a.offer a.here a.i a.e a.pen a.to content)
+    ∙ ap (λ (v : Weighed). weighing_to (shown t a.offer a.here (seen a.to a.pen (settled t a.i a.e a.pen v))) v) was
