@@ -1,2 +1,2 @@
--- every contract leaves one answer and one content of each lent buffer
+-- the contract of each export is that of the call that it makes
 pub mod OneAnswer
