@@ -117,3 +117,7 @@ rounds f c n q digits N h e =
     let is : q ≡ closest (shifted n) (2 ^ c) = e ∙ ap (λ (x : ℕ). closest x (2 ^ c)) (mod-eq_of_lt (normalized n P h).2) in
     let few : q ≤ 2 ^ prec f = subst (λ (x : ℕ). x ≤ 2 ^ prec f) (sym is) (kept-le f c n digits P h) in
     record { few = few; small = pattern-le f c n q digits few; right = ap (λ (x : ℕ). of_bits f (pattern f c n x)) is ∙ of_number f c n digits P h }
+
+-- the same, of the number m that n was shifted to
+pub rounds_left : (f : Format) (c n : ℕ) {m q : ℕ} → prec f + c ≡ 64 → (n ≡ 0 → ⊥) → n < 2 ^ 64 → m ≡ shifted n % 2 ^ 64 → q ≡ closest m (2 ^ c) → Rounds f c n q
+rounds_left f c n digits N h s e = rounds f c n _ digits N h (e ∙ ap (λ (m : ℕ). closest m (2 ^ c)) s)

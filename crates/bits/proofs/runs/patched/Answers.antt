@@ -1,5 +1,5 @@
 use mathlib.Core.Path.{◌≡◌, ◌∙◌}
-use Prim.Native.Nat.{◌-◌, ◌^◌}
+use Prim.Native.Nat.{ℕ, ◌+◌, ◌-◌, ◌*◌, ◌%◌, ◌^◌, ◌≤◌, ◌<◌, min}
 use native.Mathlib.Nat.{lt_of_lt_of_le}
 use native.Mathlib.Omega.{arith}
 use lib.Dec.{lit≤}
@@ -10,14 +10,16 @@ use Rattle.bits.specs.Patch.{patch}
 use Rattle.bits.proofs.Patches.{patch-lt, mask-code}
 use Rattle.bits.proofs.runs.patched.Goals as goal
 
+-- the patched byte, from what the calls answer
+code : (b o t x : ℕ) {w m l r : ℕ} → o + t ≤ 8 → b < 2 ^ 8 → w ≡ b → m ≡ 2 ^ min t 64 - 1 → l ≡ m * 2 ^ o % 2 ^ 64 → r ≡ bit_and x m * 2 ^ o % 2 ^ 64
+    → bit_or (bit_and w (2 ^ 64 - 1 - l)) r ≡ patch b o t x
+code b o t x {w} {m} {l} {r} room byte w-is m-is l-is r-is =
+    rw (r-is, l-is, w-is) (mask-code b o t x m (m-is ∙ asked t (omega arith)) (omega arith) (lt_of_lt_of_le byte (pow_mono {i = 8} {j = 64} (lit≤ tt))))
+
 pub overflow_cast-result : goal.overflow_cast-result
 overflow_cast-result c =
-    let code : bit_or (bit_and c.wide-w.result (2 ^ 64 - 1 - c.left.result)) c.left-2.result ≡ patch c.args.b c.args.o c.args.t c.args.x =
-    rw (c.left-2.ensures, c.left.ensures, c.wide-w.ensures) (mask-code c.args.b c.args.o c.args.t c.args.x _ (c.ones-m.ensures ∙ asked c.args.t (omega arith)) (omega arith) (lt_of_lt_of_le c.ranges.b.fits (pow_mono {i = 8} {j = 64} (lit≤ tt)))) in
-    rw (code) (record { fits = patch-lt c.args.b c.args.o c.args.t c.args.x c.requires c.ranges.b.fits })
+    rw (code _ _ _ _ c.requires c.ranges.b.fits c.wide-w.ensures c.ones-m.ensures c.left.ensures c.left-2.ensures)
+    (record { fits = patch-lt _ _ _ _ c.requires c.ranges.b.fits })
 
 pub returns : goal.returns
-returns c =
-    let code : bit_or (bit_and c.wide-w.result (2 ^ 64 - 1 - c.left.result)) c.left-2.result ≡ patch c.args.b c.args.o c.args.t c.args.x =
-    rw (c.left-2.ensures, c.left.ensures, c.wide-w.ensures) (mask-code c.args.b c.args.o c.args.t c.args.x _ (c.ones-m.ensures ∙ asked c.args.t (omega arith)) (omega arith) (lt_of_lt_of_le c.ranges.b.fits (pow_mono {i = 8} {j = 64} (lit≤ tt)))) in
-    code
+returns c = code _ _ _ _ c.requires c.ranges.b.fits c.wide-w.ensures c.ones-m.ensures c.left.ensures c.left-2.ensures

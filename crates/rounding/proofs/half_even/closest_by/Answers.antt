@@ -1,7 +1,7 @@
 -- The calls answer the half of 2 ^ k, the quotient and the rest, and the one comparison
 -- rounds, by `proofs/HalfEven.antt`.
 use mathlib.Core.Path.{◌≡◌, sym, ap, ◌∙◌, subst}
-use Prim.Native.Nat.{ℕ, suc, ◌+◌, ◌-◌, ◌*◌, ◌/◌, ◌%◌, ◌^◌, ◌≤◌, ◌<◌}
+use Prim.Native.Nat.{ℕ, suc, ◌+◌, ◌-◌, ◌*◌, ◌/◌, ◌%◌, ◌^◌, ◌≤◌, ◌<◌, min}
 use native.Mathlib.Nat.{one-mul, mod-eq_of_lt, pow-succ'}
 use native.Mathlib.Omega.{arith}
 use lib.Pow.{pow-lt}
@@ -11,8 +11,6 @@ use Rattle.halves.proofs.Masks.{asked}
 use Rattle.rounding.proofs.HalfEven.{closest-up, closest-down}
 use Rattle.rounding.proofs.half_even.closest_by.Goals as goal
 
--- `half_even::closest_by` meets its contract: the calls answer the half of 2 ^ k, the quotient and the rest, and the one comparison
--- rounds, by `proofs/HalfEven.antt`. Assumes nothing.
 -- the divisor by its half
 module _ (m k : ℕ) (some : 0 < k) where
   twice : 2 * 2 ^ (k - 1) ≡ 2 ^ k
@@ -30,16 +28,20 @@ record Shifted (m k h q mask : ℕ) : Type 0 where
   quotient : q ≡ m / 2 ^ k
   rest : bit_and m mask ≡ m % 2 ^ k
 
+-- their contracts say that: the shift of 1 loses no bit, and the mask keeps the rest
+shifted : (m k : ℕ) {h q mask : ℕ} → (0 < k) × (k < 64) → h ≡ 1 * 2 ^ (k - 1) % 2 ^ 64 → q ≡ m / 2 ^ k → mask ≡ 2 ^ min k 64 - 1 → Shifted m k h q mask
+shifted m k fit half quotient ones = record {
+  half = half ∙ ap (λ (x : ℕ). x % 2 ^ 64) (one-mul (2 ^ (k - 1))) ∙ mod-eq_of_lt (pow-lt {j = 64} (omega arith));
+  quotient = quotient;
+  rest = ap (bit_and m) (ones ∙ asked k (omega arith)) ∙ and_mask m k;
+}
+
 pub returns-then-rest-q : goal.returns-then-rest-q
 returns-then-rest-q c =
-    let shifted : Shifted c.args.m c.args.k c.left-h.result c.right-q.result c.ones.result =
-    record { half = c.left-h.ensures ∙ ap (λ (x : ℕ). x % 2 ^ 64) (one-mul (2 ^ (c.args.k - 1))) ∙ mod-eq_of_lt (pow-lt {j = 64} (omega arith)); quotient = c.right-q.ensures; rest = ap (bit_and c.args.m) (c.ones.ensures ∙ asked c.args.k (omega arith)) ∙ and_mask c.args.m c.args.k } in
-    let t = shifted in
-    rw t.quotient (up c.args.m c.args.k c.requires.0 (omega (arith, t.half, t.quotient, t.rest, c.if-rest-q.true)))
+    let t = shifted _ _ c.requires c.left-h.ensures c.right-q.ensures c.ones.ensures in
+    rw t.quotient (up _ _ c.requires.0 (omega arith))
 
 pub returns-else-rest-q : goal.returns-else-rest-q
 returns-else-rest-q c =
-    let shifted : Shifted c.args.m c.args.k c.left-h.result c.right-q.result c.ones.result =
-    record { half = c.left-h.ensures ∙ ap (λ (x : ℕ). x % 2 ^ 64) (one-mul (2 ^ (c.args.k - 1))) ∙ mod-eq_of_lt (pow-lt {j = 64} (omega arith)); quotient = c.right-q.ensures; rest = ap (bit_and c.args.m) (c.ones.ensures ∙ asked c.args.k (omega arith)) ∙ and_mask c.args.m c.args.k } in
-    let t = shifted in
-    rw t.quotient (down c.args.m c.args.k c.requires.0 (omega (arith, t.half, t.quotient, t.rest, c.if-rest-q.false)))
+    let t = shifted _ _ c.requires c.left-h.ensures c.right-q.ensures c.ones.ensures in
+    rw t.quotient (down _ _ c.requires.0 (omega arith))
