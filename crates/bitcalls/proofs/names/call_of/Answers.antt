@@ -1,4 +1,4 @@
--- the text holds the names in their order.
+-- The text holds the names in their order.
 use mathlib.Core.Path.{ap, ◌∙◌}
 use Rattle.columns.specs.Parts.{parts_of}
 use Rattle.bitcalls.specs.Names.{call_of}

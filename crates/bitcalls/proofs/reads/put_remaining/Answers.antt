@@ -1,4 +1,4 @@
--- by the COUNT.
+-- By the COUNT.
 use Rattle.text.proofs.Sheets.{then, same}
 use Rattle.bitcalls.proofs.Values.{remaining}
 use Rattle.bitcalls.proofs.reads.put_remaining.Goals as goal

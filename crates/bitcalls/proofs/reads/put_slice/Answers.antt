@@ -1,4 +1,4 @@
--- by the answer of the read.
+-- By the answer of the read.
 use mathlib.Core.Path.{sym, ap, ◌∙◌}
 use Rattle.text.proofs.Sheets.{then, same}
 use Rattle.bitcalls.specs.Text.{part_text, slice_text}

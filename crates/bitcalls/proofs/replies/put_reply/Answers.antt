@@ -1,4 +1,4 @@
--- by what CURSOR, COUNT and BUFFER are.
+-- By what CURSOR, COUNT and BUFFER are.
 use borrow.Author.Rules.{rules}
 use mathlib.Core.Path.{sym, ◌∙◌}
 use Rattle.text.proofs.Sheets.{same}

@@ -1,4 +1,4 @@
--- by what the VALUE is.
+-- By what the VALUE is.
 use borrow.Author.Rules.{rules}
 use mathlib.Core.Path.{refl, sym, ◌∙◌}
 use borrow.Author.Tests.{not-true, not-false}

@@ -1,4 +1,4 @@
--- , case by case.
+-- Case by case.
 use mathlib.Core.Path.{sym, ap}
 use Rattle.text.proofs.Sheets.{nothing, same}
 use Rattle.readcalls.specs.Alike.{difference_text}

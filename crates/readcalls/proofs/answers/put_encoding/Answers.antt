@@ -1,4 +1,4 @@
--- , case by case.
+-- Case by case.
 use mathlib.Core.Path.{sym, ap}
 use Rattle.text.proofs.Sheets.{then, same}
 use Rattle.readcalls.specs.Lines.{encoding_text}

@@ -1,4 +1,4 @@
--- , case by case.
+-- Case by case.
 use mathlib.Core.Path.{sym, ap, ◌∙◌}
 use mathlib.Core.List.{append-nil, flat_map}
 use Rattle.text.proofs.Sheets.{nothing, same}

@@ -1,4 +1,4 @@
--- turn by turn, what is met and what is left are the walk.
+-- Turn by turn, what is met and what is left are the walk.
 use mathlib.Core.Path.{◌≡◌, sym, ◌∙◌, subst}
 use mathlib.Core.Bool.{true}
 use Rattle.tables.specs.Table.{table_of}

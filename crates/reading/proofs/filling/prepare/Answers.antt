@@ -1,4 +1,4 @@
--- by the refusal, then by the test. An accepted table's length is at most 223, so that
+-- By the refusal, then by the test. An accepted table's length is at most 223, so that
 -- the run has room for what is filled.
 use mathlib.Core.Path.{sym, ◌∙◌}
 use native.Mathlib.Omega.{arith}

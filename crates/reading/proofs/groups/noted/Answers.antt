@@ -1,4 +1,4 @@
--- the counters of the first k sets are noted.
+-- The counters of the first k sets are noted.
 use mathlib.Core.Path.{◌≡◌, sym, ap, ◌∙◌}
 use Prim.Native.Nat.{ℕ, min}
 use native.Mathlib.Omega.{arith}

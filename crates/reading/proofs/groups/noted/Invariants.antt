@@ -1,4 +1,4 @@
--- the counters of the first k sets are noted.
+-- The counters of the first k sets are noted.
 use mathlib.Core.Path.{◌≡◌}
 use Prim.Native.Nat.{◌-◌, ◌≤◌, min}
 use Rattle.tables.specs.Table.{table_of}

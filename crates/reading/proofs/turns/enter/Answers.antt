@@ -1,4 +1,4 @@
--- by the count.
+-- By the count.
 use mathlib.Core.Path.{◌≡◌, sym, ap, ap₂, ◌∙◌}
 use Prim.Native.Nat.{ℕ}
 use Rattle.tables.specs.Table.{table_of}

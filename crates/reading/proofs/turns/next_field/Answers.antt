@@ -1,4 +1,4 @@
--- by what is to be done at the spot.
+-- By what is to be done at the spot.
 use mathlib.Core.Path.{sym, ◌∙◌}
 use Rattle.tables.specs.Table.{table_of}
 use Rattle.fields.specs.Payload.{payload_of}

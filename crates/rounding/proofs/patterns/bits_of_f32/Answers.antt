@@ -6,7 +6,6 @@ use denote.Floats.{passes}
 use Rattle.rounding.proofs.Fields.{is_number}
 use Rattle.rounding.proofs.patterns.bits_of_f32.Goals as goal
 
--- `patterns::bits_of_f32` meets its contract: a NaN's bits are those of the one NaN. Assumes nothing.
 nan-bits : 0x7fc0_0000 ≡ to_bits binary32 nan
 unfolding to_bits
 nan-bits = refl

@@ -6,7 +6,6 @@ use denote.Floats.{passes}
 use Rattle.rounding.proofs.Fields.{is_number}
 use Rattle.rounding.proofs.patterns.bits_of_f64.Goals as goal
 
--- `patterns::bits_of_f64` meets its contract: a NaN's bits are those of the one NaN. Assumes nothing.
 nan-bits : 0x7ff8_0000_0000_0000 ≡ to_bits binary64 nan
 unfolding to_bits
 nan-bits = refl

@@ -5,7 +5,6 @@ use Rattle.rounding.proofs.Fields.{no-nan-at}
 use Rattle.rounding.proofs.Nans.{nan64, nan_at}
 use Rattle.rounding.proofs.patterns.f64_of_bits.Goals as goal
 
--- `patterns::f64_of_bits` meets its contract: a NaN's pattern is the NaN's, any other makes a float. Assumes nothing.
 pub returns-then-b-gt9218868437227405312 : goal.returns-then-b-gt9218868437227405312
 returns-then-b-gt9218868437227405312 c = nan64 ∙ sym (nan_at binary64 c.args.b c.if-b-gt9218868437227405312.true)
 

@@ -1,4 +1,4 @@
--- by whether the line is a table in words.
+-- By whether the line is a table in words.
 use borrow.Author.Rules.{rules}
 use mathlib.Core.Path.{ap}
 use borrow.Author.Tests.{not-true, not-false}

@@ -1,4 +1,4 @@
--- a, then the quick way, then why not.
+-- A, then the quick way, then why not.
 use mathlib.Core.Path.{sym, ◌∙◌}
 use Rattle.tables.specs.Table.{table_of}
 use Rattle.tables.proofs.Chain.{sizes-kept, sizes-broken}

@@ -1,4 +1,4 @@
--- each before i keeps the rule, so the search is the same from i on.
+-- Each before i keeps the rule, so the search is the same from i on.
 use mathlib.Core.Path.{◌≡◌}
 use Prim.Native.Nat.{◌-◌, ◌≤◌}
 use Rattle.tables.specs.Table.{table_of}

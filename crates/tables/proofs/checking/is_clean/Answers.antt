@@ -1,4 +1,4 @@
--- where each keeps its rules.
+-- Where each keeps its rules.
 use mathlib.Core.Path.{sym, subst}
 use Prim.Native.Nat.{ℕ, ◌<◌}
 use Rattle.tables.specs.Table.{table_of}

@@ -1,4 +1,4 @@
--- the two ends.
+-- The two ends.
 use mathlib.Core.Path.{◌≡◌, refl, sym, ap, ◌∙◌}
 use mathlib.Core.Bool.{Bool, false, ◌&&◌}
 use lib.IntN.{pos, negsuc}

@@ -1,4 +1,4 @@
--- each before the counter keeps its rules.
+-- Each before the counter keeps its rules.
 use Prim.Native.Nat.{ℕ, ◌-◌, ◌≤◌, ◌<◌}
 use Rattle.tables.specs.Table.{table_of}
 use Rattle.tables.specs.Check.{KeptField}

@@ -1,4 +1,4 @@
--- each before the counter keeps its rules.
+-- Each before the counter keeps its rules.
 use native.Mathlib.Omega.{arith}
 use borrow.Author.Count.{below_more}
 use Rattle.tables.proofs.kept.sets_are_kept.Goals as goal

@@ -1,4 +1,4 @@
--- the sum is that of the first j fields.
+-- The sum is that of the first j fields.
 use mathlib.Core.Path.{refl, sym, ap, ap₂, ◌∙◌, subst}
 use Prim.Native.Nat.{ℕ, ◌+◌, ◌<◌}
 use native.Mathlib.Omega.{arith}

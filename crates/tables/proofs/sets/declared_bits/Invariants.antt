@@ -1,4 +1,4 @@
--- the sum is that of the first j fields.
+-- The sum is that of the first j fields.
 use mathlib.Core.Path.{◌≡◌}
 use Prim.Native.Nat.{◌-◌, ◌*◌, ◌≤◌}
 use Rattle.tables.specs.Table.{table_of}

@@ -1,4 +1,4 @@
--- no set up to k holds the field.
+-- No set up to k holds the field.
 use mathlib.Core.Path.{refl, sym, ap₂, ◌∙◌}
 use mathlib.Core.Bool.{Bool, ◌||◌}
 use native.Mathlib.Omega.{arith}

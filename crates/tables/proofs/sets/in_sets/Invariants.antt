@@ -1,4 +1,4 @@
--- no set up to k holds the field.
+-- No set up to k holds the field.
 use mathlib.Core.Path.{◌≡◌}
 use mathlib.Core.Bool.{false}
 use Prim.Native.Nat.{◌-◌, ◌≤◌}

@@ -1,4 +1,4 @@
--- no set before k starts at the field, so the search is the same from k on.
+-- No set before k starts at the field, so the search is the same from k on.
 use mathlib.Core.Path.{sym, ap, ◌∙◌}
 use mathlib.Core.Bool.{Bool}
 use native.Mathlib.Omega.{arith}

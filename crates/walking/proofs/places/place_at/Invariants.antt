@@ -1,4 +1,4 @@
--- no set before k starts at the field, so the search is the same from k on.
+-- No set before k starts at the field, so the search is the same from k on.
 use mathlib.Core.Path.{◌≡◌}
 use Prim.Native.Nat.{◌-◌, ◌≤◌}
 use Rattle.tables.specs.Table.{table_of}
