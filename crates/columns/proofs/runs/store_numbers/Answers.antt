@@ -1,11 +1,11 @@
 -- The invariant: n values are stored, and the parts from `from` on have the others.
 use mathlib.Core.Path.{◌≡◌, sym, ap, ap₂, ◌∙◌}
 use mathlib.Core.List.{List, [], ◌∷◌}
-use Prim.Native.Nat.{ℕ, ◌+◌, ◌≤◌, ◌<◌}
+use Prim.Native.Nat.{ℕ, ◌+◌, ◌-◌, ◌≤◌, ◌<◌}
 use native.Mathlib.Omega.{arith}
-use lib.ListN.{length, drop, set, length-drop, length-map}
+use lib.ListN.{length, take, drop, set, length-drop, length-map}
 use Rattle.columns.specs.declared.Number.{Number}
-use Rattle.columns.specs.Parts.{parts_of}
+use Rattle.columns.specs.Parts.{part_end_lem, parts_of}
 use Rattle.columns.specs.Numbers.{hex_in}
 use Rattle.columns.specs.Runs.{values_of}
 use Rattle.columns.proofs.Lists.{front, front_length, front-more, front-all}
@@ -35,34 +35,38 @@ here ps rest w old words n v r d f h =
       stored = ap₂ (λ (ws : List ℕ) (y : ℕ). set ws n y) f (h ∙ sym x.1.0) ∙ front-more n vs old x.0 room;
     }
 
+module _ (mark : ℕ) (s old words : List ℕ) (from end n : ℕ) {w : List ℕ} {x : Number} (fits : length (parts_of mark s) ≤ length old)
+    (inv : (from ≤ length s) × ((drop n (values_of (parts_of mark s)) ≡ values_of (parts_of mark (drop from s))) × (words ≡ front n (values_of (parts_of mark s)) old)))
+    (h : x ≡ hex_in w) (k : w ≡ take (end - from) (drop from s)) where
+  -- the value of the part from `from` up to `end`
+  part-here : (rest : List (List ℕ)) → parts_of mark (drop from s) ≡ take (end - from) (drop from s) ∷ rest → Here (values_of (parts_of mark s)) old words (values_of rest) n x.value
+  part-here rest f =
+      here (parts_of mark s) rest _ old words n x.value fits (inv.1.0 ∙ ap values_of f) inv.1.1
+      (ap (λ (y : Number). y.value) h ∙ ap (λ (y : List ℕ). (hex_in y).value) k)
+
+  -- room for it, whichever part it is
+  part-room : end ≡ part_end_lem mark from s → end ≤ length s → (n < length old) × (length words ≡ length old)
+  part-room e l = let f = part-first mark s from end inv.0 e l in let g = part-here f.0 f.1 in (g.room, g.size)
+
 pub offset_bounds-words-n : goal.offset_bounds-words-n
-offset_bounds-words-n c =
-    let f = part-first c.args.mark c.args.s.now c.loop-mark.from c.part_end-end.result c.loop-mark.invariant.0 c.part_end-end.ensures.value c.part_end-end.ensures.upper_bound in
-    let g = here (parts_of c.args.mark c.args.s.now) f.0 _ c.args.words.now c.loop-mark.words c.loop-mark.n c.hex-word.result.value c.requires (c.loop-mark.invariant.1.0 ∙ ap values_of f.1) c.loop-mark.invariant.1.1 (ap (λ (y : Number). y.value) c.hex-word.ensures ∙ ap (λ (y : List ℕ). (hex_in y).value) c.part.ensures) in
-    omega (arith, g.room, g.size, c.well_formed)
+offset_bounds-words-n c = omega (arith, part-room _ _ _ _ _ _ _ c.requires c.loop-mark.invariant c.hex-word.ensures c.part.ensures c.part_end-end.ensures.value c.part_end-end.ensures.upper_bound, c.well_formed)
 
 pub bounds-words-n : goal.bounds-words-n
-bounds-words-n c =
-    let f = part-first c.args.mark c.args.s.now c.loop-mark.from c.part_end-end.result c.loop-mark.invariant.0 c.part_end-end.ensures.value c.part_end-end.ensures.upper_bound in
-    let g = here (parts_of c.args.mark c.args.s.now) f.0 _ c.args.words.now c.loop-mark.words c.loop-mark.n c.hex-word.result.value c.requires (c.loop-mark.invariant.1.0 ∙ ap values_of f.1) c.loop-mark.invariant.1.1 (ap (λ (y : Number). y.value) c.hex-word.ensures ∙ ap (λ (y : List ℕ). (hex_in y).value) c.part.ensures) in
-    omega (arith, g.room, g.size)
+bounds-words-n c = omega (arith, part-room _ _ _ _ _ _ _ c.requires c.loop-mark.invariant c.hex-word.ensures c.part.ensures c.part_end-end.ensures.value c.part_end-end.ensures.upper_bound)
 
 pub overflow_add-n : goal.overflow_add-n
-overflow_add-n c =
-    let f = part-first c.args.mark c.args.s.now c.loop-mark.from c.part_end-end.result c.loop-mark.invariant.0 c.part_end-end.ensures.value c.part_end-end.ensures.upper_bound in
-    let g = here (parts_of c.args.mark c.args.s.now) f.0 _ c.args.words.now c.loop-mark.words c.loop-mark.n c.hex-word.result.value c.requires (c.loop-mark.invariant.1.0 ∙ ap values_of f.1) c.loop-mark.invariant.1.1 (ap (λ (y : Number). y.value) c.hex-word.ensures ∙ ap (λ (y : List ℕ). (hex_in y).value) c.part.ensures) in
-    omega (arith, g.room, g.size, c.well_formed)
+overflow_add-n c = omega (arith, part-room _ _ _ _ _ _ _ c.requires c.loop-mark.invariant c.hex-word.ensures c.part.ensures c.part_end-end.ensures.value c.part_end-end.ensures.upper_bound, c.well_formed)
 
 pub returns-then-end-s : goal.returns-then-end-s
 returns-then-end-s c =
     let vs = values_of (parts_of c.args.mark c.args.s.now) in
     let f = part-last c.args.mark c.args.s.now c.loop-mark.from c.part_end-end.result c.loop-mark.invariant.0 c.part_end-end.ensures.value c.if-end-s.true in
-    let g = here (parts_of c.args.mark c.args.s.now) [] _ c.args.words.now c.loop-mark.words c.loop-mark.n c.hex-word.result.value c.requires (c.loop-mark.invariant.1.0 ∙ ap values_of f) c.loop-mark.invariant.1.1 (ap (λ (y : Number). y.value) c.hex-word.ensures ∙ ap (λ (y : List ℕ). (hex_in y).value) c.part.ensures) in
+    let g = part-here _ _ _ _ _ _ _ c.requires c.loop-mark.invariant c.hex-word.ensures c.part.ensures [] f in
     g.stored ∙ front-all (c.loop-mark.n + 1) vs c.args.words.now (omega (arith, g.among, ap length g.others, length-drop (c.loop-mark.n + 1) vs))
 
 pub loop-mark-preserved : goal.loop-mark-preserved
 loop-mark-preserved c =
     let far : c.part_end-end.result < length c.args.s.now = omega (arith, c.if-end-s.false, c.part_end-end.ensures.upper_bound) in
     let f = part-more c.args.mark c.args.s.now c.loop-mark.from c.part_end-end.result c.loop-mark.invariant.0 c.part_end-end.ensures.value far in
-    let g = here (parts_of c.args.mark c.args.s.now) _ _ c.args.words.now c.loop-mark.words c.loop-mark.n c.hex-word.result.value c.requires (c.loop-mark.invariant.1.0 ∙ ap values_of f) c.loop-mark.invariant.1.1 (ap (λ (y : Number). y.value) c.hex-word.ensures ∙ ap (λ (y : List ℕ). (hex_in y).value) c.part.ensures) in
+    let g = part-here _ _ _ _ _ _ _ c.requires c.loop-mark.invariant c.hex-word.ensures c.part.ensures _ f in
     (omega arith, (g.others, g.stored))

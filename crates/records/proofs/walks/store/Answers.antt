@@ -1,15 +1,36 @@
 -- What is stored are the readings made so far.
 use mathlib.Core.Path.{◌≡◌, sym, ◌∙◌, subst}
+use mathlib.Core.List.{List}
+use Prim.Native.Nat.{ℕ}
 use native.Mathlib.Omega.{arith}
-use Rattle.tables.specs.Table.{table_of}
-use Rattle.fields.specs.Payload.{payload_of}
+use Rattle.tables.specs.Table.{Table, table_of}
+use Rattle.tables.specs.Check.{check_of}
+use Rattle.tables.specs.declared.Checked.TheVariants.{Accepted}
+use Rattle.fields.specs.Payload.{Payload, payload_of}
 use Rattle.reading.specs.declared.Walk.{Walk}
+use Rattle.reading.specs.declared.Next.{Next}
+use Rattle.reading.specs.declared.Decoded.{Decoded}
+use Rattle.reading.specs.declared.Came.{Came}
 use Rattle.reading.specs.declared.Came.TheVariants as came
-use Rattle.reading.specs.Steps.{came_to_lem}
-use Rattle.records.specs.Stretches.{Roomy}
+use Rattle.reading.specs.Steps.{next_of, came_to_lem, handed}
+use Rattle.records.specs.Stretches.{Leads, stored}
 use Rattle.records.proofs.Quickly.{roomy-on}
-use Rattle.records.proofs.Storing.{Storing, storing-none, On, storing-on, next-on, next_last}
+use Rattle.records.proofs.Storing.{Storing, storing-none, On, storing-on, Next-on, next-on, Next-last, next_last}
 use Rattle.records.proofs.walks.store.Goals as goal
+
+module _ {t : Table} {p : Payload} {room : ℕ} {out₀ : List ℕ} (ok : check_of t ≡ Accepted) {w z : Walk} {out mid : List ℕ} (h : Storing t p room out₀ w out) (l : Leads t p room w out z mid) where
+  -- after the quick way
+  on : On t p room out₀ ok w z mid
+  on = storing-on t p room out₀ ok w out z mid h l
+
+  module _ {n : Next} {new : List ℕ} {a : Came} (e : n ≡ next_of t p room z) (s : new ≡ stored mid z.progress.made (handed n.answer)) (q : a ≡ came_to_lem n) where
+    -- after a turn that goes on
+    step : a ≡ came.On → Next-on t p room out₀ ok z n new
+    step o = next-on t p room out₀ ok z mid on.storing n e new s (sym q ∙ o)
+
+    -- after the last turn
+    stop : {d : Decoded} → a ≡ came.To d → Next-last t p room out₀ ok d new
+    stop {d} o = next_last t p room out₀ ok z mid on.storing n e new s d (sym q ∙ o)
 
 pub loop-walk-init : goal.loop-walk-init
 loop-walk-init c =
@@ -21,35 +42,20 @@ loop-walk-init c =
 
 pub loop-walk-smaller : goal.loop-walk-smaller
 loop-walk-smaller c =
-    let passed : came_to_lem c.turn-next.result ≡ came.On =
-    sym c.came_to.ensures ∙ c.in-On.is in
-    let on : On (table_of c.args.words.now) (payload_of c.args.s.now) c.args.room c.args.out.now c.loop-walk.invariant.0 c.loop-walk.walk c.quickly-walk.result c.quickly-walk.new.out =
-    storing-on (table_of c.args.words.now) (payload_of c.args.s.now) c.args.room c.args.out.now c.loop-walk.invariant.0 c.loop-walk.walk c.loop-walk.out c.quickly-walk.result _ c.loop-walk.invariant.1.1 c.quickly-walk.ensures in
-    let d = (on).less in
-    let e = ((let on : On (table_of c.args.words.now) (payload_of c.args.s.now) c.args.room c.args.out.now c.loop-walk.invariant.0 c.loop-walk.walk c.quickly-walk.result c.quickly-walk.new.out =
-    storing-on (table_of c.args.words.now) (payload_of c.args.s.now) c.args.room c.args.out.now c.loop-walk.invariant.0 c.loop-walk.walk c.loop-walk.out c.quickly-walk.result _ c.loop-walk.invariant.1.1 c.quickly-walk.ensures in
-    next-on (table_of c.args.words.now) (payload_of c.args.s.now) c.args.room c.args.out.now c.loop-walk.invariant.0 c.quickly-walk.result _ (on).storing c.turn-next.result c.turn-next.ensures.0 _ c.turn-next.ensures.1 (passed))).less in
+    let d = (on c.loop-walk.invariant.0 c.loop-walk.invariant.1.1 c.quickly-walk.ensures).less in
+    let e = (step c.loop-walk.invariant.0 c.loop-walk.invariant.1.1 c.quickly-walk.ensures c.turn-next.ensures.0 c.turn-next.ensures.1 c.came_to.ensures c.in-On.is).less in
     omega (arith, d, e)
 
 pub loop-walk-preserved : goal.loop-walk-preserved
 loop-walk-preserved c =
-    let passed : came_to_lem c.turn-next.result ≡ came.On =
-    sym c.came_to.ensures ∙ c.in-On.is in
-    let roomy : Roomy c.args.room c.quickly-walk.new.out =
-    roomy-on c.args.room c.loop-walk.out _ _ _ c.loop-walk.invariant.1.0 c.quickly-walk.ensures.puts in (
+    let roomy = roomy-on _ _ _ _ _ c.loop-walk.invariant.1.0 c.quickly-walk.ensures.puts in (
       c.loop-walk.invariant.0,
       (
-        roomy-on c.args.room c.quickly-walk.new.out _ _ _ (roomy) c.turn-next.ensures.1,
-        ((let on : On (table_of c.args.words.now) (payload_of c.args.s.now) c.args.room c.args.out.now c.loop-walk.invariant.0 c.loop-walk.walk c.quickly-walk.result c.quickly-walk.new.out =
-            storing-on (table_of c.args.words.now) (payload_of c.args.s.now) c.args.room c.args.out.now c.loop-walk.invariant.0 c.loop-walk.walk c.loop-walk.out c.quickly-walk.result _ c.loop-walk.invariant.1.1 c.quickly-walk.ensures in
-            next-on (table_of c.args.words.now) (payload_of c.args.s.now) c.args.room c.args.out.now c.loop-walk.invariant.0 c.quickly-walk.result _ (on).storing c.turn-next.result c.turn-next.ensures.0 _ c.turn-next.ensures.1 (passed))).storing,
+        roomy-on _ _ _ _ _ roomy c.turn-next.ensures.1,
+        (step c.loop-walk.invariant.0 c.loop-walk.invariant.1.1 c.quickly-walk.ensures c.turn-next.ensures.0 c.turn-next.ensures.1 c.came_to.ensures c.in-On.is).storing,
       ),
     )
 
 pub returns-in-To : goal.returns-in-To
 returns-in-To c =
-    let last : came_to_lem c.turn-next.result ≡ came.To c.in-To.decoded =
-    sym c.came_to.ensures ∙ c.in-To.is in
-    let y = (let on : On (table_of c.args.words.now) (payload_of c.args.s.now) c.args.room c.args.out.now c.loop-walk.invariant.0 c.loop-walk.walk c.quickly-walk.result c.quickly-walk.new.out =
-    storing-on (table_of c.args.words.now) (payload_of c.args.s.now) c.args.room c.args.out.now c.loop-walk.invariant.0 c.loop-walk.walk c.loop-walk.out c.quickly-walk.result _ c.loop-walk.invariant.1.1 c.quickly-walk.ensures in
-    next_last (table_of c.args.words.now) (payload_of c.args.s.now) c.args.room c.args.out.now c.loop-walk.invariant.0 c.quickly-walk.result _ (on).storing c.turn-next.result c.turn-next.ensures.0 _ c.turn-next.ensures.1 _ (last)) in (sym y.ends, y.puts)
+    let y = stop c.loop-walk.invariant.0 c.loop-walk.invariant.1.1 c.quickly-walk.ensures c.turn-next.ensures.0 c.turn-next.ensures.1 c.came_to.ensures c.in-To.is in (sym y.ends, y.puts)
