@@ -32,6 +32,7 @@ use Rattle.reading.specs.declared.Answer.TheVariants.{Met, Skipped, Moved, Ended
 use Rattle.reading.specs.declared.Next.{Next}
 use Rattle.reading.specs.declared.Decoded.{Decoded}
 use Rattle.reading.specs.declared.Decoded.TheVariants as decoded
+use Rattle.reading.specs.declared.Came.{Came}
 use Rattle.reading.specs.declared.Came.TheVariants as came
 use Rattle.fields.specs.Payload.{Payload, payload_of}
 use Rattle.fields.specs.Shapes.{shape_of}
@@ -61,6 +62,10 @@ came-on (Skipped v) s h = refl
 came-on Moved s h = refl
 came-on Ended s h = let y : ◌≡◌ {A = ℕ} 0 1 = cc in absurd (omega arith)
 came-on (Refused f) s h = let y : ◌≡◌ {A = ℕ} 0 1 = cc in absurd (omega arith)
+
+-- .. said of the turn, once code has what it came to ..
+pub goes-on : (n : Next) {m : Came} → m ≡ came_to_lem n → m ≡ came.On → goes_on_lem n.answer ≡ true
+goes-on n h k = came-on n.answer n.walk.progress (sym h ∙ k)
 
 -- .. and nowhere else
 pub came-last : (a : Answer) (s : Progress) (d : Decoded) → came_by a s ≡ came.To d → goes_on_lem a ≡ false
@@ -263,6 +268,10 @@ module _ (t : Table) (p : Payload) (room : ℕ) where
         turned_by w g (turn_of t p room w.spot w.progress) refl
         (falls t one count too_many (small t ok) w.spot w.progress g.bounded)
         (meets t one count too_many Makes makes w.spot w.progress)
+
+    -- .. once code has it
+    pub leaves : {w : Walk} {n : Next} (g : Going w) → n ≡ next_of t p room w → Turned w g n
+    leaves {w = w} g e = subst (λ (n : Next). Turned w g n) (sym e) (turned w g)
 
     -- where a turn came to an answer, that is what decoding comes to
     pub comes-to : (w : Walk) (g : Going w) (n : Next) → Turned w g n → (d : Decoded) → came_to_lem n ≡ came.To d → whole ≡ d

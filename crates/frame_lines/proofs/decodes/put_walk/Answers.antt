@@ -1,12 +1,9 @@
 -- Turn by turn, the lines of the readings so far stand on the page.
-use mathlib.Core.Path.{◌≡◌, refl, sym, ◌∙◌, subst}
-use mathlib.Core.Bool.{true, false}
+use mathlib.Core.Path.{refl, sym, ◌∙◌, subst}
 use Rattle.tables.specs.Table.{table_of}
 use Rattle.fields.specs.Payload.{payload_of}
-use Rattle.reading.specs.declared.Next.{Next}
 use Rattle.reading.specs.declared.Walk.{Walk}
-use Rattle.reading.specs.Steps.{goes_on_lem}
-use Rattle.reading.proofs.Looped.{Turned, turned, came-on, came-last}
+use Rattle.reading.proofs.Looped.{goes-on, came-last, leaves}
 use Rattle.text.proofs.Sheets.{same}
 use Rattle.frame_lines.specs.Lines.{reading_line}
 use Rattle.frame_lines.proofs.Walked.{Printed, begins, goes, turn_lines, ends}
@@ -21,29 +18,19 @@ loop-walk-init c =
     )
 
 pub loop-walk-smaller : goal.loop-walk-smaller
-loop-walk-smaller c =
-    let on : goes_on_lem c.next_field-next.result.answer ≡ true =
-    came-on c.next_field-next.result.answer c.next_field-next.result.walk.progress (sym c.came_to.ensures ∙ c.in-On.is) in
-    let left : Turned (table_of c.args.words.now) (payload_of c.args.payload.now) c.args.room c.loop-walk.walk c.loop-walk.invariant.1.1.going c.next_field-next.result =
-    let t = table_of c.args.words.now in let p = payload_of c.args.payload.now in subst (λ (n : Next). Turned t p c.args.room c.loop-walk.walk c.loop-walk.invariant.1.1.going n) (sym c.next_field-next.ensures) (turned t p c.args.room c.loop-walk.invariant.0 c.loop-walk.walk c.loop-walk.invariant.1.1.going) in
-    ((left).on (on)).less
+loop-walk-smaller c = ((leaves _ _ _ c.loop-walk.invariant.0 c.loop-walk.invariant.1.1.going c.next_field-next.ensures).on (goes-on c.next_field-next.result c.came_to.ensures c.in-On.is)).less
 
 pub loop-walk-preserved : goal.loop-walk-preserved
 loop-walk-preserved c =
-    let on : goes_on_lem c.next_field-next.result.answer ≡ true =
-    came-on c.next_field-next.result.answer c.next_field-next.result.walk.progress (sym c.came_to.ensures ∙ c.in-On.is) in
-    let left : Turned (table_of c.args.words.now) (payload_of c.args.payload.now) c.args.room c.loop-walk.walk c.loop-walk.invariant.1.1.going c.next_field-next.result =
-    let t = table_of c.args.words.now in let p = payload_of c.args.payload.now in subst (λ (n : Next). Turned t p c.args.room c.loop-walk.walk c.loop-walk.invariant.1.1.going n) (sym c.next_field-next.ensures) (turned t p c.args.room c.loop-walk.invariant.0 c.loop-walk.walk c.loop-walk.invariant.1.1.going) in (
+    let on = goes-on c.next_field-next.result c.came_to.ensures c.in-On.is in (
       c.loop-walk.invariant.0,
       (
         c.put_turn-to.auto.out ∙ c.loop-walk.invariant.1.0,
-        goes reading_line (table_of c.args.words.now) (payload_of c.args.payload.now) c.args.room c.loop-walk.invariant.1.1 (left) (on) (same (turn_lines c.next_field-next.result.answer _ (on)) c.put_turn-to.ensures),
+        goes reading_line _ _ _ c.loop-walk.invariant.1.1 (leaves _ _ _ c.loop-walk.invariant.0 c.loop-walk.invariant.1.1.going c.next_field-next.ensures) on (same (turn_lines c.next_field-next.result.answer _ on) c.put_turn-to.ensures),
       ),
     )
 
 pub returns-in-To : goal.returns-in-To
 returns-in-To c =
-    let left : Turned (table_of c.args.words.now) (payload_of c.args.payload.now) c.args.room c.loop-walk.walk c.loop-walk.invariant.1.1.going c.next_field-next.result =
-    let t = table_of c.args.words.now in let p = payload_of c.args.payload.now in subst (λ (n : Next). Turned t p c.args.room c.loop-walk.walk c.loop-walk.invariant.1.1.going n) (sym c.next_field-next.ensures) (turned t p c.args.room c.loop-walk.invariant.0 c.loop-walk.walk c.loop-walk.invariant.1.1.going) in
-    let o : goes_on_lem c.next_field-next.result.answer ≡ false = came-last c.next_field-next.result.answer c.next_field-next.result.walk.progress _ (sym c.came_to.ensures ∙ c.in-To.is) in
-    ends (table_of c.args.words.now) (payload_of c.args.payload.now) c.args.room c.loop-walk.invariant.1.1 (left) o c.put_turn-to.ensures
+    let last = came-last c.next_field-next.result.answer c.next_field-next.result.walk.progress _ (sym c.came_to.ensures ∙ c.in-To.is) in
+    ends _ _ _ c.loop-walk.invariant.1.1 (leaves _ _ _ c.loop-walk.invariant.0 c.loop-walk.invariant.1.1.going c.next_field-next.ensures) last c.put_turn-to.ensures

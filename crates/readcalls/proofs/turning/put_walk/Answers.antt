@@ -1,12 +1,9 @@
 -- Turn by turn, the lines of the readings so far stand on the page. The measure is the weight of the walk.
-use mathlib.Core.Path.{◌≡◌, refl, sym, ◌∙◌, subst}
-use mathlib.Core.Bool.{true}
+use mathlib.Core.Path.{refl, sym, ◌∙◌, subst}
 use Rattle.tables.specs.Table.{table_of}
 use Rattle.fields.specs.Payload.{payload_of}
-use Rattle.reading.specs.declared.Next.{Next}
 use Rattle.reading.specs.declared.Walk.{Walk}
-use Rattle.reading.specs.Steps.{goes_on_lem}
-use Rattle.reading.proofs.Looped.{Turned, turned, came-on, came-last, comes-to}
+use Rattle.reading.proofs.Looped.{goes-on, came-last, leaves, comes-to}
 use Rattle.frame_lines.proofs.Walked.{Printed, begins, goes, ended}
 use Rattle.readcalls.specs.Lines.{reading_line}
 use Rattle.readcalls.proofs.turning.put_walk.Goals as goal
@@ -18,26 +15,14 @@ loop-walk-init c =
     (c.requires, (refl, subst (λ (w : Walk). Printed reading_line t p c.args.room c.args.out.now c.args.at c.args.out.now c.args.at w) (sym c.start-walk.ensures) (begins reading_line t p c.args.room c.args.out.now c.args.at)))
 
 pub loop-walk-smaller : goal.loop-walk-smaller
-loop-walk-smaller c =
-    let on : goes_on_lem c.next_field-next.result.answer ≡ true =
-    came-on c.next_field-next.result.answer c.next_field-next.result.walk.progress (sym c.came_to.ensures ∙ c.in-On.is) in
-    let left : Turned (table_of c.args.words.now) (payload_of c.args.s.now) c.args.room c.loop-walk.walk c.loop-walk.invariant.1.1.going c.next_field-next.result =
-    let t = table_of c.args.words.now in let p = payload_of c.args.s.now in subst (λ (n : Next). Turned t p c.args.room c.loop-walk.walk c.loop-walk.invariant.1.1.going n) (sym c.next_field-next.ensures) (turned t p c.args.room c.loop-walk.invariant.0 c.loop-walk.walk c.loop-walk.invariant.1.1.going) in
-    ((left).on (on)).less
+loop-walk-smaller c = ((leaves _ _ _ c.loop-walk.invariant.0 c.loop-walk.invariant.1.1.going c.next_field-next.ensures).on (goes-on c.next_field-next.result c.came_to.ensures c.in-On.is)).less
 
 pub loop-walk-preserved : goal.loop-walk-preserved
-loop-walk-preserved c =
-    let on : goes_on_lem c.next_field-next.result.answer ≡ true =
-    came-on c.next_field-next.result.answer c.next_field-next.result.walk.progress (sym c.came_to.ensures ∙ c.in-On.is) in
-    let left : Turned (table_of c.args.words.now) (payload_of c.args.s.now) c.args.room c.loop-walk.walk c.loop-walk.invariant.1.1.going c.next_field-next.result =
-    let t = table_of c.args.words.now in let p = payload_of c.args.s.now in subst (λ (n : Next). Turned t p c.args.room c.loop-walk.walk c.loop-walk.invariant.1.1.going n) (sym c.next_field-next.ensures) (turned t p c.args.room c.loop-walk.invariant.0 c.loop-walk.walk c.loop-walk.invariant.1.1.going) in
-    (c.loop-walk.invariant.0, (c.put_turn-to.auto.out ∙ c.loop-walk.invariant.1.0, goes reading_line (table_of c.args.words.now) (payload_of c.args.s.now) c.args.room c.loop-walk.invariant.1.1 (left) (on) c.put_turn-to.ensures))
+loop-walk-preserved c = (c.loop-walk.invariant.0, (c.put_turn-to.auto.out ∙ c.loop-walk.invariant.1.0, goes reading_line _ _ _ c.loop-walk.invariant.1.1 (leaves _ _ _ c.loop-walk.invariant.0 c.loop-walk.invariant.1.1.going c.next_field-next.ensures) (goes-on c.next_field-next.result c.came_to.ensures c.in-On.is) c.put_turn-to.ensures))
 
 pub returns-in-To : goal.returns-in-To
 returns-in-To c =
-    let left : Turned (table_of c.args.words.now) (payload_of c.args.s.now) c.args.room c.loop-walk.walk c.loop-walk.invariant.1.1.going c.next_field-next.result =
-    let t = table_of c.args.words.now in let p = payload_of c.args.s.now in subst (λ (n : Next). Turned t p c.args.room c.loop-walk.walk c.loop-walk.invariant.1.1.going n) (sym c.next_field-next.ensures) (turned t p c.args.room c.loop-walk.invariant.0 c.loop-walk.walk c.loop-walk.invariant.1.1.going) in
-    let t = table_of c.args.words.now in
-    let p = payload_of c.args.s.now in
+    let left = leaves _ _ _ c.loop-walk.invariant.0 c.loop-walk.invariant.1.1.going c.next_field-next.ensures in
     let came = sym c.came_to.ensures ∙ c.in-To.is in
-    (ended reading_line t p c.args.room c.loop-walk.invariant.1.1 (left) (came-last c.next_field-next.result.answer c.next_field-next.result.walk.progress _ came) c.put_turn-to.ensures, sym (comes-to t p c.args.room c.loop-walk.invariant.0 c.loop-walk.walk c.loop-walk.invariant.1.1.going c.next_field-next.result (left) _ came))
+    let last = came-last c.next_field-next.result.answer c.next_field-next.result.walk.progress _ came in
+    (ended reading_line _ _ _ c.loop-walk.invariant.1.1 left last c.put_turn-to.ensures, sym (comes-to _ _ _ c.loop-walk.invariant.0 c.loop-walk.walk c.loop-walk.invariant.1.1.going c.next_field-next.result left _ came))

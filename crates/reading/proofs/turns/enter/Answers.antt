@@ -1,26 +1,26 @@
 -- By the count.
 use mathlib.Core.Path.{◌≡◌, sym, ap, ap₂, ◌∙◌}
 use Prim.Native.Nat.{ℕ}
-use Rattle.tables.specs.Table.{table_of}
-use Rattle.fields.specs.Payload.{payload_of, bits_left}
+use Rattle.tables.specs.Table.{Table, table_of}
+use Rattle.fields.specs.Payload.{Payload, payload_of, bits_left}
 use lib.ListN.{get_or}
 use Rattle.bits.specs.declared.BitPos.{BitPos}
+use Rattle.walking.specs.declared.Spot.{Spot}
+use Rattle.walking.specs.declared.Look.TheVariants.{Enter}
+use Rattle.reading.specs.declared.GroupCount.{GroupCount}
+use Rattle.reading.specs.declared.Progress.{Progress}
 use Rattle.reading.specs.Groups.{group_count_of}
+use Rattle.reading.specs.Steps.{shown_at}
 use Rattle.reading.proofs.Turned.{enter_says, enter-says}
 use Rattle.reading.proofs.turns.enter.Goals as goal
 
+-- what the count says is what is to be done
+entered : (t : Table) (p : Payload) (here : Spot) (s : Progress) (k : ℕ) {raw left : ℕ} {n v : GroupCount}
+    → raw ≡ get_or s.counters k 0 → left ≡ bits_left p s.at.0 → n ≡ group_count_of t k raw left → n ≡ v → enter_says t p here s k v ≡ shown_at t p 0 here s (Enter k)
+entered t p here s k e f h q = ap (enter_says t p here s k) (sym q ∙ h ∙ ap₂ (group_count_of t k) e f) ∙ enter-says t p here s k
+
 pub returns-in-Count : goal.returns-in-Count
-returns-in-Count c =
-    let counts : let p = payload_of c.args.s.now in c.repeating_group_count.result ≡ group_count_of (table_of c.args.words.now) c.args.k (get_or c.args.p.counters c.args.k 0) (bits_left p c.args.p.at.0) =
-    c.repeating_group_count.ensures ∙ ap₂ (λ (r : ℕ) (l : BitPos). group_count_of (table_of c.args.words.now) c.args.k r l.0) c.counter_at-raw.ensures c.bits_remaining-left.ensures in
-    let t = table_of c.args.words.now in
-    let p = payload_of c.args.s.now in
-    c.next.ensures ∙ ap (enter_says t p c.args.here c.args.p c.args.k) (sym c.in-Count.is ∙ counts) ∙ enter-says t p c.args.here c.args.p c.args.k
+returns-in-Count c = c.next.ensures ∙ entered (table_of c.args.words.now) (payload_of c.args.s.now) c.args.here c.args.p c.args.k c.counter_at-raw.ensures (ap (λ (l : BitPos). l.0) c.bits_remaining-left.ensures) c.repeating_group_count.ensures c.in-Count.is
 
 pub returns-in-Refused : goal.returns-in-Refused
-returns-in-Refused c =
-    let counts : let p = payload_of c.args.s.now in c.repeating_group_count.result ≡ group_count_of (table_of c.args.words.now) c.args.k (get_or c.args.p.counters c.args.k 0) (bits_left p c.args.p.at.0) =
-    c.repeating_group_count.ensures ∙ ap₂ (λ (r : ℕ) (l : BitPos). group_count_of (table_of c.args.words.now) c.args.k r l.0) c.counter_at-raw.ensures c.bits_remaining-left.ensures in
-    let t = table_of c.args.words.now in
-    let p = payload_of c.args.s.now in
-    c.next-in-Refused.ensures ∙ ap (enter_says t p c.args.here c.args.p c.args.k) (sym c.in-Refused.is ∙ counts) ∙ enter-says t p c.args.here c.args.p c.args.k
+returns-in-Refused c = c.next-in-Refused.ensures ∙ entered (table_of c.args.words.now) (payload_of c.args.s.now) c.args.here c.args.p c.args.k c.counter_at-raw.ensures (ap (λ (l : BitPos). l.0) c.bits_remaining-left.ensures) c.repeating_group_count.ensures c.in-Refused.is
