@@ -12,6 +12,7 @@ use Rattle.bits.specs.declared.ReadSlice.TheVariants as slice
 use lib.IntN.{pos, negsuc}
 use lib.Ieee.{fin, binary32, binary64, of_int, round, units, odd, size, span, climb, of_bits, of_fields, div, add, sub, sum, le, lt, eq}
 use mathlib.Core.Bool.{Bool, true, false}
+use Rattle.std.specs.Prelude.{Ok, Err}
 use Rattle.rounding.specs.Truncation.{half_away_of}
 use Rattle.numbers.specs.declared.Quantized.{Quantized}
 use Rattle.numbers.specs.declared.Quantized.TheVariants.{Raw, OutOfRange}
@@ -40,7 +41,6 @@ use Rattle.fields.specs.declared.FieldRead.TheVariants.{Got}
 use Rattle.fields.specs.declared.Raw.TheVariants as raw
 use Rattle.fields.specs.Payload.{payload_of}
 use Rattle.fields.specs.Content.{text_at_lem, field_read_of, availability_of}
-use Rattle.reading.specs.declared.GroupCount.TheVariants as group
 use Rattle.reading.specs.Groups.{group_count_of, noted_to}
 use Rattle.reading.specs.Decode.{readings}
 use Rattle.hexadecimal.specs.Digits.{all_digits_lem, spelled_from, pairs_of}
@@ -124,7 +124,7 @@ abbrev counted : ℕ → Table
 counted maximum = table_of (0x1_0002 ∷ 0x800 ∷ 0x2000 ∷ (0x1_0001 + maximum * 0x1_0000_0000_0000) ∷ [])
 
 -- "3 declared, 64 bits left, 32 each: 2; maximum 1: refused with 2"
-two-fit : (group_count_of (counted 5) 0 3 64 ≡ group.Count 2) × (group_count_of (counted 1) 0 3 64 ≡ group.Refused (RepetitionsExceedCapacity 0 2 1))
+two-fit : (group_count_of (counted 5) 0 3 64 ≡ Ok 2) × (group_count_of (counted 1) 0 3 64 ≡ Err (RepetitionsExceedCapacity 0 2 1))
 unfolding declared_bits_lem
 two-fit = (refl, refl)
 

@@ -6,15 +6,15 @@ use mathlib.Core.List.{List, [], ◌∷◌, ◌++◌, append-nil}
 use Prim.Native.Nat.{ℕ, suc, ◌<◌}
 use native.Mathlib.Omega.{arith}
 use lib.ListN.{length, set}
+use Rattle.std.specs.Prelude.{Result, Ok, Err}
 use Rattle.bits.specs.Bits.{pick}
 use Rattle.tables.specs.Table.{Table}
+use Rattle.fields.specs.declared.DecodeRefusal.{DecodeRefusal}
 use Rattle.fields.specs.Payload.{Payload, payload_of}
 use Rattle.reading.specs.declared.Reading.{Reading}
 use Rattle.reading.specs.declared.Answer.{Answer}
 use Rattle.reading.specs.declared.Answer.TheVariants as answer
 use Rattle.reading.specs.declared.Next.{Next}
-use Rattle.reading.specs.declared.Prepared.{Prepared}
-use Rattle.reading.specs.declared.Prepared.TheVariants.{Ready, Refused}
 use Rattle.reading.specs.declared.Decoded.{Decoded}
 use Rattle.reading.specs.Filling.{working_of, prepared_of, run_after}
 use Rattle.reading.specs.Decode.{readings, decoded_in, decoded_of_lem, read_into, readings_of, walk_of, end_of}
@@ -79,7 +79,7 @@ module _ {X : Type 0} (K : Kind X) (t : Table) (received pad₀ : List ℕ) (ys 
   kept-none rs h = sym (ap kept (none_read rs h) ∙ ap (λ (xs : List X). entries_of xs ys) K.none)
 
   abbrev ready : Type 0
-  ready = prepared_of t (length received) (length pad₀) ≡ Ready
+  ready = prepared_of t (length received) (length pad₀) ≡ Ok tt
 
   -- where a turn may begin: nothing is done yet, or the readings made so far are stored
   pub data Holds (c : Step) (pad : List ℕ) (cur : List X) : Type 0 where
@@ -105,20 +105,20 @@ module _ {X : Type 0} (K : Kind X) (t : Table) (received pad₀ : List ℕ) (ys 
   not-false h = let y : ◌≡◌ {A = ℕ} 0 1 = cc in absurd (omega arith)
 
   -- the first turn
-  begins : (c : Step) → c.fresh ≡ true → (q : Prepared) → prepared_of t (length received) (length pad₀) ≡ q → Left c ys (begun_by q) padding
-  begins c f Ready e = record {
+  begins : (c : Step) → c.fresh ≡ true → (q : Result (Unit {0}) DecodeRefusal) → prepared_of t (length received) (length pad₀) ≡ q → Left c ys (begun_by q) padding
+  begins c f (Ok tt) e = record {
     inside = λ h. not-true h;
     stored = λ h. not-true h;
     went = λ _ _. (later refl e (going t p room) refl (kept-none (readings t p (going t p room).done) (going t p room).made), subst (λ (b : Bool). heft t p room start_of < pick b (suc (heft t p room start_of)) (heft t p room c.walk)) (sym f) (omega arith));
     ends = λ _ h. not-true h;
   }
-  begins c f (Refused x) e = record {
+  begins c f (Err x) e = record {
     inside = λ h. not-true h;
     stored = λ h. not-true h;
     went = λ _ h. not-false h;
     ends = λ _ _. (
-      ap (λ (q : Prepared). decoded_in q t p room) (sym e),
-      (refl, sym (ap (λ (q : Prepared). kept (read_into q t p room)) e ∙ ap (λ (xs : List X). entries_of xs ys) K.none)),
+      ap (λ (q : Result (Unit {0}) DecodeRefusal). decoded_in q t p room) (sym e),
+      (refl, sym (ap (λ (q : Result (Unit {0}) DecodeRefusal). kept (read_into q t p room)) e ∙ ap (λ (xs : List X). entries_of xs ys) K.none)),
     );
   }
 
@@ -150,8 +150,8 @@ module _ {X : Type 0} (K : Kind X) (t : Table) (received pad₀ : List ℕ) (ys 
     -- one that ends the walk
     last : (d : Decoded) → goes_on_lem n.answer ≡ false → end_of t p (walk_of t p room) ≡ d → (d ≡ answers) × ((padding ≡ padding) × (so_far ≡ entries))
     last d o e = (
-      sym e ∙ ap (λ (q : Prepared). decoded_in q t p room) (sym ok),
-      (refl, ap kept (sym (after.last o)) ∙ ap (λ (q : Prepared). kept (read_into q t p room)) (sym ok)),
+      sym e ∙ ap (λ (q : Result (Unit {0}) DecodeRefusal). decoded_in q t p room) (sym ok),
+      (refl, ap kept (sym (after.last o)) ∙ ap (λ (q : Result (Unit {0}) DecodeRefusal). kept (read_into q t p room)) (sym ok)),
     )
 
     goes : (a : Answer) → n.answer ≡ a → Left c so_far (answered_by a n.walk made) padding

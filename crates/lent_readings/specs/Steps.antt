@@ -1,12 +1,13 @@
 -- One turn of a decode into a lent run: what the functions here say of each other. It is no part of document 01; that the turns come to a decode is
 -- proofs/Turns.antt.
-use Rattle.std.specs.Prelude.{ℕ, true, false, List, length}
+use Rattle.std.specs.Prelude.{ℕ, true, false, List, length, Result, Ok, Err}
 use Rattle.bits.specs.Bits.{pick}
 use Rattle.bits.specs.Calls.{bits}
 use Rattle.descriptor.specs.declared.Availability.TheVariants.{Available}
 use Rattle.descriptor.specs.declared.PgnValue.TheVariants.{U8}
 use Rattle.tables.specs.Table.{Table}
 use Rattle.walking.specs.declared.Element.TheVariants.{Outside}
+use Rattle.fields.specs.declared.DecodeRefusal.{DecodeRefusal}
 use Rattle.fields.specs.declared.Raw.TheVariants.{Absent}
 use Rattle.fields.specs.Payload.{payload_of}
 use Rattle.reading.specs.declared.Reading.{Reading}
@@ -14,8 +15,6 @@ use Rattle.reading.specs.declared.Walk.{Walk}
 use Rattle.reading.specs.declared.Answer.{Answer}
 use Rattle.reading.specs.declared.Answer.TheVariants as answer
 use Rattle.reading.specs.declared.Next.{Next}
-use Rattle.reading.specs.declared.Prepared.{Prepared}
-use Rattle.reading.specs.declared.Prepared.TheVariants as prepared
 use Rattle.reading.specs.declared.Decoded.{Decoded}
 use Rattle.reading.specs.declared.Decoded.TheVariants as decoded
 use Rattle.reading.specs.Filling.{picked_of, prepared_of, run_after}
@@ -42,9 +41,9 @@ storing_step n r w = record { stores = true; over = false; fresh = false; place 
 abbrev pub over_step : Decoded → Step
 over_step d = record { stores = false; over = true; fresh = false; place = 0; reading = blank; walk = start_of; decoded = d }
 
-abbrev pub begun_by : Prepared → Step
-begun_by prepared.Ready = on_step start_of
-begun_by (prepared.Refused e) = over_step (decoded.Refused e 0)
+abbrev pub begun_by : Result (Unit {0}) DecodeRefusal → Step
+begun_by (Ok tt) = on_step start_of
+begun_by (Err e) = over_step (decoded.Refused e 0)
 
 -- by what a turn answered that leads to the walk w, where `made` readings had been made
 abbrev pub answered_by : Answer → Walk → ℕ → Step

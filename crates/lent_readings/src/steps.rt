@@ -8,8 +8,8 @@ ghost use Rattle.lent_readings.specs.Clauses.{Turns};
 use crate::Step;
 use bits::BitPos;
 use descriptor::{Availability, PgnValue};
-use fields::Raw;
-use reading::{Answer, Decoded, Next, Prepared, Reading, Walk};
+use fields::{DecodeRefusal, Raw};
+use reading::{Answer, Decoded, Next, Reading, Walk};
 use walking::Element;
 
 // What stands where there is no reading. It is never stored.
@@ -96,12 +96,12 @@ fn over(decoded: Decoded) -> Step
     }
 }
 
-fn begun(prepared: Prepared) -> Step
+fn begun(prepared: Result<(), DecodeRefusal>) -> Step
     ensures { result ≡ begun_by prepared }
 {
     match prepared {
-        Prepared::Ready => on(reading::start()),
-        Prepared::Refused(refusal) => over(Decoded::Refused { refusal, count: 0 }),
+        Ok(()) => on(reading::start()),
+        Err(refusal) => over(Decoded::Refused { refusal, count: 0 }),
     }
 }
 

@@ -7,6 +7,7 @@ use native.Mathlib.Omega.{arith}
 use borrow.Author.Tests.{ltb-false}
 use lib.Dec.{eqb, leb, ltb}
 use lib.ListN.{length, take, set, replicate, length-set, length-replicate}
+use Rattle.std.specs.Prelude.{Result, Ok, Err}
 use Rattle.bits.specs.Bits.{pick}
 use Rattle.bits.specs.Calls.{bytes}
 use Rattle.hexadecimal.specs.Digits.{value_of}
@@ -22,10 +23,9 @@ use Rattle.messages.specs.declared.Known.{Known}
 use Rattle.messages.specs.declared.Known.TheVariants as known
 use Rattle.messages.specs.Messages.{message_of_lem, words_of}
 use Rattle.messages.proofs.Accepted.{accepted}
+use Rattle.fields.specs.declared.DecodeRefusal.{DecodeRefusal}
 use Rattle.fields.specs.declared.DecodeRefusal.TheVariants.{WrongLength, NoRoom}
 use Rattle.fields.specs.Payload.{payload_of}
-use Rattle.reading.specs.declared.Prepared.{Prepared}
-use Rattle.reading.specs.declared.Prepared.TheVariants as prepared
 use Rattle.reading.specs.Filling.{working_of, by_check, prepared_of}
 use Rattle.reading.specs.declared.Decoded.TheVariants as decoded
 use Rattle.reading.specs.Decode.{read_into, decoded_in, decoded_of_lem}
@@ -53,25 +53,25 @@ works M129026 p = refl
 works M129029 p = refl
 works M130900 p = refl
 
-prepares : (m : Message) (n : ℕ) (t : Bool) → ltb payload_max n ≡ t → prepared_of (table_of (words_of m)) n payload_max ≡ pick t (prepared.Refused (WrongLength (bytes n))) prepared.Ready
-prepares m n true e = ap (λ (x : Bool). pick x (prepared.Refused (WrongLength (bytes n))) (by_check (check_of (table_of (words_of m))))) e
-prepares m n false e = ap (λ (x : Bool). pick x (prepared.Refused (WrongLength (bytes n))) (by_check (check_of (table_of (words_of m))))) e ∙ ap by_check (accepted m)
+prepares : (m : Message) (n : ℕ) (t : Bool) → ltb payload_max n ≡ t → prepared_of (table_of (words_of m)) n payload_max ≡ pick t (Err (WrongLength (bytes n))) (Ok tt)
+prepares m n true e = ap (λ (x : Bool). pick x (Err (WrongLength (bytes n))) (by_check (check_of (table_of (words_of m))))) e
+prepares m n false e = ap (λ (x : Bool). pick x (Err (WrongLength (bytes n))) (by_check (check_of (table_of (words_of m))))) e ∙ ap by_check (accepted m)
 
 -- what a decode prints, by what `prepare` says
-prints : (m : Message) (p : List ℕ) (s : Prepared) → prepared_of (table_of (words_of m)) (length p) payload_max ≡ s
+prints : (m : Message) (p : List ℕ) (s : Result (Unit {0}) DecodeRefusal) → prepared_of (table_of (words_of m)) (length p) payload_max ≡ s
     → message_text m p ≡ decode_text (read_into s (table_of (words_of m)) (payload_of p) room_enough_lem) (decoded_in s (table_of (words_of m)) (payload_of p) room_enough_lem)
 prints m p s e =
     let t = table_of (words_of m) in
-    ap (λ (x : Prepared). decode_text (read_into x t (payload_of (working_of t p)) room_enough_lem) (decoded_in x t (payload_of (working_of t p)) room_enough_lem)) e
+    ap (λ (x : Result (Unit {0}) DecodeRefusal). decode_text (read_into x t (payload_of (working_of t p)) room_enough_lem) (decoded_in x t (payload_of (working_of t p)) room_enough_lem)) e
     ∙ ap (λ (x : List ℕ). decode_text (read_into s t (payload_of x) room_enough_lem) (decoded_in s t (payload_of x) room_enough_lem)) (works m p)
 
 -- the buffer begins with the payload, unless that is too long
 payload-by : (m : Message) (p buffer : List ℕ) (t : Bool) → ltb payload_max (length p) ≡ t → (length p ≤ payload_max → take (length p) buffer ≡ p)
     → pick t (refusal_line (WrongLength (bytes (length p)))) (walk_text (table_of (words_of m)) (payload_of (take (length p) buffer)) room_enough_lem) ≡ message_text m p
 unfolding flat_map
-payload-by m p buffer true e h = sym (prints m p (prepared.Refused (WrongLength (bytes (length p)))) (prepares m (length p) true e))
+payload-by m p buffer true e h = sym (prints m p (Err (WrongLength (bytes (length p)))) (prepares m (length p) true e))
 payload-by m p buffer false e h =
-    ap (λ (x : List ℕ). walk_text (table_of (words_of m)) (payload_of x) room_enough_lem) (h (ltb-false payload_max (length p) e)) ∙ sym (prints m p prepared.Ready (prepares m (length p) false e))
+    ap (λ (x : List ℕ). walk_text (table_of (words_of m)) (payload_of x) room_enough_lem) (h (ltb-false payload_max (length p) e)) ∙ sym (prints m p (Ok tt) (prepares m (length p) false e))
 
 -- ## A line
 

@@ -7,6 +7,7 @@ use native.Mathlib.Omega.{arith}
 use borrow.Author.Tests.{leb-true}
 use lib.Dec.{eqb, leb}
 use lib.ListN.{length, drop, replicate, length-append, length-drop, length-replicate}
+use Rattle.std.specs.Prelude.{Result, Ok, Err}
 use Rattle.bits.specs.Bits.{pick}
 use Rattle.hexadecimal.proofs.Inverse.{length_digits}
 use Rattle.text.specs.Digits.{spaced, bytes_text}
@@ -22,11 +23,10 @@ use Rattle.descriptor.specs.declared.PgnValue.{PgnValue}
 use Rattle.descriptor.specs.declared.PgnValue.TheVariants.{U64, U32, U16, U8, I64, I32, I16, I8, F64, F32, Bytes}
 use Rattle.numbers.specs.Words.{word_of_lem}
 use Rattle.tables.specs.Table.{Table, table_of}
+use Rattle.fields.specs.declared.DecodeRefusal.{DecodeRefusal}
 use Rattle.fields.specs.declared.Raw.{Raw}
 use Rattle.fields.specs.declared.Raw.TheVariants as raw
 use Rattle.fields.specs.Payload.{payload_of}
-use Rattle.reading.specs.declared.Prepared.{Prepared}
-use Rattle.reading.specs.declared.Prepared.TheVariants.{Ready, Refused}
 use Rattle.reading.specs.declared.Reading.{Reading}
 use Rattle.reading.specs.declared.Decoded.{Decoded}
 use Rattle.reading.specs.declared.Decoded.TheVariants as decoded
@@ -111,13 +111,13 @@ module _ (t : Table) (received run : List ℕ) (room : ℕ) where
   few : length (readings_of t received (length run) room) ≤ room_enough_lem
   few = go (prepared_of t (length received) (length run)) refl
     where
-      go : (p : Prepared) → prepared_of t (length received) (length run) ≡ p → length (read_into p t (payload_of (working_of t received)) room) ≤ room_enough_lem
-      go Ready e =
+      go : (p : Result (Unit {0}) DecodeRefusal) → prepared_of t (length received) (length run) ≡ p → length (read_into p t (payload_of (working_of t received)) room) ≤ room_enough_lem
+      go (Ok tt) e =
           let p = payload_of (working_of t received) in
           let many = few-readings t (ready-accepted t received run e) p room in
           let short = working-le t received run e in
           omega (arith, many, short)
-      go (Refused x) e = omega arith
+      go (Err x) e = omega arith
 
   -- a run that was filled holds the payload first
   after-size : length (run_after t received run) ≤ 223 + length run
@@ -127,9 +127,9 @@ module _ (t : Table) (received run : List ℕ) (room : ℕ) where
       by true l = omega (arith, length-append (working_of t received) (drop t.length run), length-drop t.length run, l)
       by false l = omega arith
 
-      go : (p : Prepared) → prepared_of t (length received) (length run) ≡ p → length (kept_unless p (padded_of t received run) run) ≤ 223 + length run
-      go Ready e = by (fills t (length received)) (working-le t received run e)
-      go (Refused x) e = omega arith
+      go : (p : Result (Unit {0}) DecodeRefusal) → prepared_of t (length received) (length run) ≡ p → length (kept_unless p (padded_of t received run) run) ≤ 223 + length run
+      go (Ok tt) e = by (fills t (length received)) (working-le t received run e)
+      go (Err x) e = omega arith
 
   decode-size : length run ≤ padding_max → length (decode_text t received run room) ≤ 286780
   decode-size l =

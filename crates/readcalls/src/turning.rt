@@ -10,7 +10,7 @@ ghost use Rattle.readcalls.specs.Lines.{reading_line};
 ghost use Rattle.readcalls.specs.Clauses.{Walks, Turns};
 
 use crate::answers::put_reading;
-use reading::{Answer, Came, Decoded, Prepared};
+use reading::{Answer, Came, Decoded};
 
 // What the turns came to, and the place after the readings' lines.
 #[derive(Clone, Copy)]
@@ -67,11 +67,11 @@ pub(crate) fn put_turns(
     ensures { Turns result padded.new out.new words.now received.now padded.old room out.old at }
 {
     match reading::prepare(words, received, padded) {
-        Prepared::Ready => {
+        Ok(()) => {
             let s = reading::pad_to_min_length(words, received, padded);
             put_walk(words, s, room, out, at)
         }
-        Prepared::Refused(refusal) => Turned {
+        Err(refusal) => Turned {
             to: at,
             decoded: Decoded::Refused { refusal, count: 0 },
         },

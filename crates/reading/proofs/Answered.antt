@@ -6,6 +6,7 @@ use mathlib.Core.List.{List, ◌∷◌, ◌++◌}
 use Prim.Native.Nat.{ℕ, ◌*◌, ◌%◌, ◌^◌, ◌≤◌, ◌<◌}
 use native.Mathlib.Omega.{arith}
 use lib.ListN.{length}
+use Rattle.std.specs.Prelude.{Result, Ok, Err}
 use Rattle.bits.specs.Bits.{written}
 use Rattle.bits.specs.declared.BitPos.{BitPos}
 use Rattle.bits.specs.declared.Room.{Room}
@@ -29,8 +30,6 @@ use Rattle.fields.specs.Taken.{short_of, room_at, taken_by}
 use Rattle.reading.specs.declared.Span.{Span}
 use Rattle.reading.specs.declared.Reading.{Reading}
 use Rattle.reading.specs.declared.Progress.{Progress}
-use Rattle.reading.specs.declared.Prepared.{Prepared}
-use Rattle.reading.specs.declared.Prepared.TheVariants as prepared
 use Rattle.reading.specs.declared.Decoded.TheVariants as decoded
 use Rattle.reading.specs.declared.Walk.{Walk}
 use Rattle.reading.specs.declared.Answer.TheVariants as answer
@@ -47,7 +46,7 @@ use Rattle.reading.proofs.Demand3.{demand-3}
 
 -- a payload that decodes
 pub record Decodes (t : Table) (received : List ℕ) (padded room : ℕ) (vs : List Span) (s : Progress) : Type 0 where
-  pub ready : prepared_of t (length received) padded ≡ prepared.Ready
+  pub ready : prepared_of t (length received) padded ≡ Ok tt
   pub run : walk_of t (payload_of (working_of t received)) room ≡ ran vs s
 
 module _ (t : Table) (received : List ℕ) (padded room : ℕ) where
@@ -58,24 +57,24 @@ module _ (t : Table) (received : List ℕ) (padded room : ℕ) where
   -- an end is answered where it decodes: the end that the spans come to, and the number of fields met that are not skipped
   pub answers : (vs : List Span) (s : Progress) → Decodes t received padded room vs s → decoded_of_lem t received padded room ≡ decoded.Ended s.at (unskipped_in t vs)
   answers vs s d =
-      ap (λ (q : Prepared). decoded_in q t working room) d.ready ∙ ap (end_of t working) d.run ∙ ap (decoded.Ended s.at) (count-unskipped t working vs)
+      ap (λ (q : Result (Unit {0}) DecodeRefusal). decoded_in q t working room) d.ready ∙ ap (end_of t working) d.run ∙ ap (decoded.Ended s.at) (count-unskipped t working vs)
 
-  by-run : (end : BitPos) (n : ℕ) → prepared_of t (length received) padded ≡ prepared.Ready → (w : Run Span Progress DecodeRefusal) → walk_of t working room ≡ w
+  by-run : (end : BitPos) (n : ℕ) → prepared_of t (length received) padded ≡ Ok tt → (w : Run Span Progress DecodeRefusal) → walk_of t working room ≡ w
       → end_of t working w ≡ decoded.Ended end n → (vs : List Span) × (s : Progress) × Decodes t received padded room vs s
   by-run end n q (ran vs s) w e = (vs, s, record { ready = q; run = w })
   by-run end n q (stopped vs f) w e = let z : ◌≡◌ {A = ℕ} 0 1 = cc in absurd (omega arith)
 
-  by-prepared : (end : BitPos) (n : ℕ) (q : Prepared) → prepared_of t (length received) padded ≡ q → decoded_in q t working room ≡ decoded.Ended end n
+  by-prepared : (end : BitPos) (n : ℕ) (q : Result (Unit {0}) DecodeRefusal) → prepared_of t (length received) padded ≡ q → decoded_in q t working room ≡ decoded.Ended end n
       → (vs : List Span) × (s : Progress) × Decodes t received padded room vs s
-  by-prepared end n prepared.Ready q e = by-run end n q (walk_of t working room) refl e
-  by-prepared end n (prepared.Refused x) q e = let z : ◌≡◌ {A = ℕ} 0 1 = cc in absurd (omega arith)
+  by-prepared end n (Ok tt) q e = by-run end n q (walk_of t working room) refl e
+  by-prepared end n (Err x) q e = let z : ◌≡◌ {A = ℕ} 0 1 = cc in absurd (omega arith)
 
   -- .. and nowhere else
   pub answered : (end : BitPos) (n : ℕ) → decoded_of_lem t received padded room ≡ decoded.Ended end n → (vs : List Span) × (s : Progress) × Decodes t received padded room vs s
   answered end n h = by-prepared end n (prepared_of t (length received) padded) refl h
 
   pub reads : (vs : List Span) (s : Progress) → Decodes t received padded room vs s → readings_of t received padded room ≡ readings t working vs
-  reads vs s d = ap (λ (q : Prepared). read_into q t working room) d.ready ∙ ap (λ (r : Run Span Progress DecodeRefusal). readings t working (spans_of r)) d.run
+  reads vs s d = ap (λ (q : Result (Unit {0}) DecodeRefusal). read_into q t working room) d.ready ∙ ap (λ (r : Run Span Progress DecodeRefusal). readings t working (spans_of r)) d.run
 
 -- ## Two runs
 
@@ -115,7 +114,7 @@ two_runs t received padded room us v ws s d free x =
     let vs = us ++ v ∷ ws in
     let d3 = demand-3 t received padded room vs s d.ready d.run in
     let k = d3.change us v ws refl free x in
-    let ready : prepared_of t (length received') padded ≡ prepared.Ready = ap (λ (n : ℕ). prepared_of t n padded) (length-written received v.start.0 v.bits.0 x) ∙ d.ready in
+    let ready : prepared_of t (length received') padded ≡ Ok tt = ap (λ (n : ℕ). prepared_of t n padded) (length-written received v.start.0 v.bits.0 x) ∙ d.ready in
     let d' : Decodes t received' padded room vs s = record { ready = ready; run = k.decodes } in
     let f = t.field v.field in
     let fits = number_fits p v.field _ f.width v.start.0 v.bits.0 (shape_of f) free.strict free.number (d3.ruled us v ws refl) in
@@ -150,10 +149,10 @@ never-by-run t ok p small room enough i n (stopped vs f) w e =
     never-full t ok p room (omega arith) vs i (w ∙ ap (stopped vs) g)
 
 module _ (t : Table) (received padded : List ℕ) (room : ℕ) (enough : room_enough_lem ≤ room) (i n : ℕ) where
-  full-by-prepared : (q : Prepared) → prepared_of t (length received) (length padded) ≡ q → decoded_in q t (payload_of (working_of t received)) room ≡ decoded.Refused (NoRoom i) n → ⊥
-  full-by-prepared prepared.Ready q e =
+  full-by-prepared : (q : Result (Unit {0}) DecodeRefusal) → prepared_of t (length received) (length padded) ≡ q → decoded_in q t (payload_of (working_of t received)) room ≡ decoded.Refused (NoRoom i) n → ⊥
+  full-by-prepared (Ok tt) q e =
       never-by-run t (readied t (length received) (length padded) q).table (payload_of (working_of t received)) (working-le t received padded q) room enough i n _ refl e
-  full-by-prepared (prepared.Refused x) q e = let g : x ≡ NoRoom i = cc in never-prepared t (length received) (length padded) i (q ∙ ap prepared.Refused g)
+  full-by-prepared (Err x) q e = let g : x ≡ NoRoom i = cc in never-prepared t (length received) (length padded) i (q ∙ ap Err g)
 
   pub enough-room : decoded_of_lem t received (length padded) room ≡ decoded.Refused (NoRoom i) n → ⊥
   enough-room h = full-by-prepared (prepared_of t (length received) (length padded)) refl h

@@ -5,6 +5,7 @@ use mathlib.Core.List.{List, ◌∷◌, ◌++◌}
 use Prim.Native.Nat.{ℕ}
 use native.Mathlib.Omega.{arith}
 use lib.ListN.{length}
+use Rattle.std.specs.Prelude.{Ok}
 use Rattle.bits.specs.Bits.{bits_at, written}
 use Rattle.tables.specs.Table.{Table}
 use Rattle.tables.specs.Check.{check_of}
@@ -14,7 +15,6 @@ use Rattle.walking.proofs.Visits.{all_right}
 use Rattle.fields.specs.Payload.{Payload, payload_of}
 use Rattle.reading.specs.declared.Span.{Span}
 use Rattle.reading.specs.declared.Progress.{Progress}
-use Rattle.reading.specs.declared.Prepared.TheVariants.{Ready}
 use Rattle.reading.specs.Filling.{working_of, prepared_of}
 use Rattle.reading.specs.Decode.{walk_of}
 use Rattle.reading.specs.Demand3.{Free, Kept, Demand3, Filling}
@@ -52,8 +52,8 @@ module _ (fill : List ℕ → List ℕ) (f : Filling fill) (t : Table) (ok : che
         change = λ us v ws e free x. change us v ws s (rw e at run) free x;
       }
 
--- of what was received: `prepare` answers `Ready` where the payload has at most 223 bytes, the padding run 223 and the table is accepted
+-- of what was received: `prepare` answers `Ok` where the payload has at most 223 bytes, the padding run 223 and the table is accepted
 pub demand-3 : (t : Table) (received : List ℕ) (padded room : ℕ) (vs : List Span) (s : Progress)
-    → prepared_of t (length received) padded ≡ Ready → walk_of t (payload_of (working_of t received)) room ≡ ran vs s → Demand3 t (working_of t) received room vs s
+    → prepared_of t (length received) padded ≡ Ok tt → walk_of t (payload_of (working_of t received)) room ≡ ran vs s → Demand3 t (working_of t) received room vs s
 demand-3 t received padded room vs s ready run =
     demand-3-under (working_of t) (working-fills t) t (readied t (length received) padded ready).table received room vs s run

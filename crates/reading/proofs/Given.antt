@@ -9,6 +9,7 @@ use native.Mathlib.Omega.{arith}
 use lib.Dec.{eqb, ltb}
 use lib.ListN.{length}
 use borrow.Author.Tests.{eqb-true}
+use Rattle.std.specs.Prelude.{Err}
 use Rattle.bits.specs.Bits.{pick}
 use Rattle.bits.specs.Calls.{bytes}
 use Rattle.tables.specs.Table.{Table}
@@ -22,7 +23,6 @@ use Rattle.fields.specs.Payload.{Payload}
 use Rattle.fields.specs.Refusals.{number_of, touches_nothing_lem, given_in_walk, given_by_decode}
 use Rattle.fields.proofs.Given.{Given, field-given}
 use Rattle.reading.specs.declared.Span.{Span}
-use Rattle.reading.specs.declared.Prepared.TheVariants as prepared
 use Rattle.reading.specs.declared.Decoded.TheVariants as decoded
 use Rattle.reading.specs.Filling.{by_check, prepared_of}
 use Rattle.reading.specs.Decode.{walk_of, decoded_of_lem}
@@ -55,11 +55,11 @@ module _ (t : Table) (ok : check_of t ≡ checked.Accepted) (p : Payload) (small
 
 -- ## All of it
 
-pub prepared-spares : (t : Table) (received padded : ℕ) (f : DecodeRefusal) → prepared_of t received padded ≡ prepared.Refused f → Spares f
+pub prepared-spares : (t : Table) (received padded : ℕ) (f : DecodeRefusal) → prepared_of t received padded ≡ Err f → Spares f
 prepared-spares t received padded f h = go (ltb payload_max received) (eqb padded payload_max) (check_of t) h
   where
     go : (a b : Bool) (c : Checked)
-        → pick a (prepared.Refused (WrongLength (bytes received))) (pick b (by_check c) (prepared.Refused (WrongLength (bytes padded)))) ≡ prepared.Refused f → Spares f
+        → pick a (Err (WrongLength (bytes received))) (pick b (by_check c) (Err (WrongLength (bytes padded)))) ≡ Err f → Spares f
     go true b c e = let k : WrongLength (bytes received) ≡ f = cc in subst Spares k refl
     go false false c e = let k : WrongLength (bytes padded) ≡ f = cc in subst Spares k refl
     go false true checked.Accepted e = let k : ◌≡◌ {A = ℕ} 0 1 = cc in absurd (omega arith)
@@ -72,10 +72,10 @@ or-true false = refl
 module _ (t : Table) (received padded : List ℕ) (room : ℕ) (f : DecodeRefusal) (n : ℕ) where
   module _ (h : decoded_of_lem t received (length padded) room ≡ decoded.Refused f n) where
     -- the walk gave it, or it was given before
-    gave : Gives f ⊎ (prepared_of t (length received) (length padded) ≡ prepared.Refused f)
+    gave : Gives f ⊎ (prepared_of t (length received) (length padded) ≡ Err f)
     gave = decode-refusal t received padded room f n Gives (λ ok small vs e. walk-gives t ok _ small room vs f e) h
 
-    spared : prepared_of t (length received) (length padded) ≡ prepared.Refused f → Spares f
+    spared : prepared_of t (length received) (length padded) ≡ Err f → Spares f
     spared q = prepared-spares t (length received) (length padded) f q
 
     -- any table, payload, padding run and room: the refusal of a decode has one of its numbers
@@ -85,7 +85,7 @@ module _ (t : Table) (received padded : List ℕ) (room : ℕ) (f : DecodeRefusa
         (λ q. ap (λ (b : Bool). given_in_walk (number_of f) || b) (spared q) ∙ or-true (given_in_walk (number_of f))) gave
 
     -- one that touches no buffer was given before the walk ..
-    pub before-walk : touches_nothing_lem (number_of f) ≡ true → prepared_of t (length received) (length padded) ≡ prepared.Refused f
+    pub before-walk : touches_nothing_lem (number_of f) ≡ true → prepared_of t (length received) (length padded) ≡ Err f
     before-walk z = ⊎_elim (λ g. absurd (apart (number_of f) g z)) (λ q. q) gave
 
     -- .. and any other by it

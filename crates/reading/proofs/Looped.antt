@@ -6,6 +6,7 @@ use Prim.Native.Nat.{ℕ, zero, suc, ◌+◌, ◌*◌, ◌≤◌, ◌<◌}
 use native.Mathlib.Omega.{arith}
 use lib.ListN.{length, length-append}
 use lib.Dec.{ltb}
+use Rattle.std.specs.Prelude.{Result, Ok}
 use Rattle.bits.specs.Bits.{pick}
 use Rattle.tables.specs.Table.{Table}
 use Rattle.tables.specs.Check.{check_of}
@@ -37,8 +38,6 @@ use Rattle.reading.specs.declared.Came.TheVariants as came
 use Rattle.fields.specs.Payload.{Payload, payload_of}
 use Rattle.fields.specs.Shapes.{shape_of}
 use Rattle.fields.specs.Content.{field_read_of}
-use Rattle.reading.specs.declared.Prepared.{Prepared}
-use Rattle.reading.specs.declared.Prepared.TheVariants.{Ready}
 use Rattle.reading.specs.Filling.{working_of, prepared_of}
 use Rattle.reading.specs.Groups.{noted_by_lem, too_many}
 use Rattle.reading.specs.Decode.{span_at, progress_at, settled, one_of, count_of, beginning, walk_of, reading_of, with_reading, readings, spans_of, end_of, read_into, readings_of}
@@ -307,7 +306,7 @@ module _ (t : Table) (p : Payload) (room : ℕ) where
     handed-all n l = handed-rest n start_of going (omega arith)
 
 -- .. and these are the readings of the received payload: `prepare` said so, and what is walked through is the working payload
-pub handed_out : (t : Table) (received : List ℕ) (padded room n : ℕ) → prepared_of t (length received) padded ≡ Ready → t.count * 20000 < n
+pub handed_out : (t : Table) (received : List ℕ) (padded room n : ℕ) → prepared_of t (length received) padded ≡ Ok tt → t.count * 20000 < n
     → handed_in t (payload_of (working_of t received)) room n start_of ≡ readings_of t received padded room
 handed_out t received padded room n ready l =
-    handed-all t (payload_of (working_of t received)) room (readied t (length received) padded ready).table n l ∙ ap (λ (r : Prepared). read_into r t (payload_of (working_of t received)) room) (sym ready)
+    handed-all t (payload_of (working_of t received)) room (readied t (length received) padded ready).table n l ∙ ap (λ (r : Result (Unit {0}) DecodeRefusal). read_into r t (payload_of (working_of t received)) room) (sym ready)

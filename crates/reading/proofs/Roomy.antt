@@ -7,6 +7,7 @@ use Prim.Native.Nat.{ℕ, ◌+◌, ◌*◌, ◌≤◌, ◌<◌}
 use native.Mathlib.Omega.{arith}
 use lib.ListN.{length}
 use lib.Dec.{ltb, eqb}
+use Rattle.std.specs.Prelude.{Err}
 use Rattle.bits.specs.Bits.{pick}
 use Rattle.bits.specs.Calls.{bytes}
 use Rattle.tables.specs.Table.{Table}
@@ -24,7 +25,6 @@ use Rattle.fields.specs.Shapes.{shape_of}
 use Rattle.reading.specs.declared.Span.{Span}
 use Rattle.reading.specs.declared.Reading.{Reading}
 use Rattle.reading.specs.declared.Progress.{Progress}
-use Rattle.reading.specs.declared.Prepared.TheVariants.{Refused}
 use Rattle.reading.specs.Filling.{by_check, prepared_of}
 use Rattle.reading.specs.Decode.{walk_of, reading_of, with_reading, readings, spans_of}
 use Rattle.reading.specs.Demand3.{total, unskipped, unskipped_in}
@@ -116,10 +116,10 @@ module _ (t : Table) (ok : check_of t ≡ checked.Accepted) (p : Payload) (room 
       omega (arith, f.2)
 
 -- nor do the refusals that come before the walk
-pub never-prepared : (t : Table) (received padded i : ℕ) → prepared_of t received padded ≡ Refused (NoRoom i) → ⊥
+pub never-prepared : (t : Table) (received padded i : ℕ) → prepared_of t received padded ≡ Err (NoRoom i) → ⊥
 never-prepared t received padded i h = go (ltb payload_max received) (eqb padded payload_max) (check_of t) h
   where
-    go : (a b : Bool) (c : Checked) → pick a (Refused (WrongLength (bytes received))) (pick b (by_check c) (Refused (WrongLength (bytes padded)))) ≡ Refused (NoRoom i) → ⊥
+    go : (a b : Bool) (c : Checked) → pick a (Err (WrongLength (bytes received))) (pick b (by_check c) (Err (WrongLength (bytes padded)))) ≡ Err (NoRoom i) → ⊥
     go true b c e = let z : ◌≡◌ {A = ℕ} 0 1 = cc in omega arith
     go false false c e = let z : ◌≡◌ {A = ℕ} 0 1 = cc in omega arith
     go false true checked.Accepted e = let z : ◌≡◌ {A = ℕ} 0 1 = cc in omega arith

@@ -8,6 +8,7 @@ use Prim.Native.Nat.{ℕ, ◌*◌, ◌≤◌}
 use native.Mathlib.Omega.{arith}
 use lib.Dec.{ltb}
 use lib.ListN.{length}
+use Rattle.std.specs.Prelude.{Result, Ok, Err}
 use Rattle.descriptor.specs.declared.FieldDescriptor.{FieldDescriptor}
 use Rattle.tables.specs.Table.{Table}
 use Rattle.tables.specs.Check.{check_of, payload_max}
@@ -30,8 +31,6 @@ use Rattle.fields.specs.Taken.{taken_of}
 use Rattle.fields.specs.Content.{read_over, field_read_of}
 use Rattle.reading.specs.declared.Span.{Span}
 use Rattle.reading.specs.declared.Progress.{Progress}
-use Rattle.reading.specs.declared.Prepared.{Prepared}
-use Rattle.reading.specs.declared.Prepared.TheVariants as prepared
 use Rattle.reading.specs.declared.Decoded.TheVariants as decoded
 use Rattle.reading.specs.Groups.{too_many}
 use Rattle.reading.specs.Filling.{working_of, prepared_of}
@@ -95,17 +94,17 @@ module _ (t : Table) (received padded : List ℕ) (room : ℕ) (f : DecodeRefusa
   abbrev working : Payload
   working = payload_of (working_of t received)
 
-  by-run : prepared_of t (length received) (length padded) ≡ prepared.Ready → (w : Run Span Progress DecodeRefusal) → walk_of t working room ≡ w
+  by-run : prepared_of t (length received) (length padded) ≡ Ok tt → (w : Run Span Progress DecodeRefusal) → walk_of t working room ≡ w
       → end_of t working w ≡ decoded.Refused f n → P f
   by-run q (ran vs s) w e = let k : ◌≡◌ {A = ℕ} 0 1 = cc in absurd (omega arith)
   by-run q (stopped vs x) w e =
       let k : x ≡ f = cc in
       walk (readied t (length received) (length padded) q).table (working-le t received padded q) vs (w ∙ ap (stopped vs) k)
 
-  by-prepared : (q : Prepared) → prepared_of t (length received) (length padded) ≡ q → decoded_in q t working room ≡ decoded.Refused f n → P f ⊎ (q ≡ prepared.Refused f)
-  by-prepared prepared.Ready q e = inl (by-run q (walk_of t working room) refl e)
-  by-prepared (prepared.Refused x) q e = let k : x ≡ f = cc in inr (ap prepared.Refused k)
+  by-prepared : (q : Result (Unit {0}) DecodeRefusal) → prepared_of t (length received) (length padded) ≡ q → decoded_in q t working room ≡ decoded.Refused f n → P f ⊎ (q ≡ Err f)
+  by-prepared (Ok tt) q e = inl (by-run q (walk_of t working room) refl e)
+  by-prepared (Err x) q e = let k : x ≡ f = cc in inr (ap Err k)
 
   -- the walk gave it, or it was given before
-  pub decode-refusal : decoded_of_lem t received (length padded) room ≡ decoded.Refused f n → P f ⊎ (prepared_of t (length received) (length padded) ≡ prepared.Refused f)
+  pub decode-refusal : decoded_of_lem t received (length padded) room ≡ decoded.Refused f n → P f ⊎ (prepared_of t (length received) (length padded) ≡ Err f)
   decode-refusal h = by-prepared (prepared_of t (length received) (length padded)) refl h

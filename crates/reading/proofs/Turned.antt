@@ -5,6 +5,7 @@ use Prim.Native.Nat.{ℕ, ◌+◌, ◌≤◌, ◌<◌}
 use lib.Dec.{leb, ltb}
 use lib.ListN.{get_or}
 use borrow.Author.Tests.{lt-ltb, le-ltb}
+use Rattle.std.specs.Prelude.{Result, Ok, Err}
 use Rattle.bits.specs.Bits.{pick}
 use Rattle.bits.specs.declared.BitPos.{BitPos}
 use Rattle.descriptor.specs.declared.PgnValue.{PgnValue}
@@ -20,8 +21,6 @@ use Rattle.walking.specs.Looks.{look_of}
 use Rattle.walking.proofs.Looked.{looked}
 use Rattle.fields.specs.declared.DecodeRefusal.{DecodeRefusal}
 use Rattle.fields.specs.declared.DecodeRefusal.TheVariants.{NoRoom}
-use Rattle.reading.specs.declared.GroupCount.{GroupCount}
-use Rattle.reading.specs.declared.GroupCount.TheVariants as group
 use Rattle.fields.specs.declared.Raw.{Raw}
 use Rattle.fields.specs.declared.FieldRead.{FieldRead}
 use Rattle.fields.specs.declared.FieldRead.TheVariants as read
@@ -96,11 +95,11 @@ module _ (t : Table) (p : Payload) (room : ℕ) (here to : Spot) (i : ℕ) (e : 
 
 -- into a set
 module _ (t : Table) (p : Payload) (here : Spot) (s : Progress) (k : ℕ) where
-  abbrev pub enter_says : GroupCount → Next
-  enter_says (group.Count n) = next_to Moved (spot.Within k n 0 0) s
-  enter_says (group.Refused f) = next_to (Refused f) here s
+  abbrev pub enter_says : Result ℕ DecodeRefusal → Next
+  enter_says (Ok n) = next_to Moved (spot.Within k n 0 0) s
+  enter_says (Err f) = next_to (Refused f) here s
 
-  enter-in : (n most : ℕ) (b : Bool) → enter_says (pick b (group.Count n) (group.Refused (too_many k n most)))
+  enter-in : (n most : ℕ) (b : Bool) → enter_says (pick b (Ok n) (Err (too_many k n most)))
       ≡ shown t p here (either b (moved (spot.Within k n 0 0) s) (broke (too_many k n most) s))
   unfolding either
   enter-in n most true = refl

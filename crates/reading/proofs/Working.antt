@@ -5,11 +5,11 @@ use mathlib.Core.Bool.{Bool, true, false, and-eq-true_iff}
 use mathlib.Core.List.{List, ◌++◌}
 use Prim.Native.Nat.{ℕ, ◌≤◌, ◌<◌}
 use native.Mathlib.Nat.{le_of_lt}
-use native.Mathlib.Omega.{arith}
 use lib.Dec.{leb, ltb, eqb}
 use lib.ListN.{length, drop}
 use lib.Seq.{take_at}
 use borrow.Author.Tests.{ltb-true, ltb-false, eqb-true}
+use Rattle.std.specs.Prelude.{Result, Ok, Err}
 use Rattle.bits.specs.Bits.{pick}
 use Rattle.tables.specs.Table.{Table}
 use Rattle.tables.specs.Check.{check_of, payload_max}
@@ -17,27 +17,22 @@ use Rattle.tables.specs.declared.Checked.{Checked}
 use Rattle.tables.specs.declared.Checked.TheVariants as checked
 use Rattle.tables.proofs.Accepted.{sizes}
 use Rattle.fields.specs.declared.DecodeRefusal.{DecodeRefusal}
-use Rattle.reading.specs.declared.Prepared.{Prepared}
-use Rattle.reading.specs.declared.Prepared.TheVariants.{Ready, Refused}
 use Rattle.reading.specs.Filling.{fills, working_of, padded_of, picked_of, by_check, prepared_of, kept_unless, run_after}
 use Rattle.fields.proofs.Filled.{full, length-full}
 
 -- ---- refusals 7 and 8
 
-never : {e : DecodeRefusal} → Refused e ≡ Ready → ⊥
-never h = let z : ◌≡◌ {A = ℕ} 0 1 = cc in omega arith
-
-passed : (b : Bool) (e : DecodeRefusal) (later : Prepared) → pick b (Refused e) later ≡ Ready → (b ≡ false) × (later ≡ Ready)
-passed true e later h = absurd (never h)
+passed : (b : Bool) (e : DecodeRefusal) (later : Result (Unit {0}) DecodeRefusal) → pick b (Err e) later ≡ Ok tt → (b ≡ false) × (later ≡ Ok tt)
+passed true e later h = cc
 passed false e later h = (refl, h)
 
-met : (b : Bool) (later : Prepared) (e : DecodeRefusal) → pick b later (Refused e) ≡ Ready → (b ≡ true) × (later ≡ Ready)
+met : (b : Bool) (later : Result (Unit {0}) DecodeRefusal) (e : DecodeRefusal) → pick b later (Err e) ≡ Ok tt → (b ≡ true) × (later ≡ Ok tt)
 met true later e h = (refl, h)
-met false later e h = absurd (never h)
+met false later e h = cc
 
-by-check : (c : Checked) → by_check c ≡ Ready → c ≡ checked.Accepted
+by-check : (c : Checked) → by_check c ≡ Ok tt → c ≡ checked.Accepted
 by-check checked.Accepted h = refl
-by-check (checked.Refused rule index) h = absurd (never h)
+by-check (checked.Refused rule index) h = cc
 
 -- what they rule out
 pub record Readied (t : Table) (received padded : ℕ) : Type 0 where
@@ -45,7 +40,7 @@ pub record Readied (t : Table) (received padded : ℕ) : Type 0 where
   pub run : padded ≡ payload_max
   pub table : check_of t ≡ checked.Accepted
 
-pub readied : (t : Table) (received padded : ℕ) → prepared_of t received padded ≡ Ready → Readied t received padded
+pub readied : (t : Table) (received padded : ℕ) → prepared_of t received padded ≡ Ok tt → Readied t received padded
 readied t received padded h =
     let a = passed (ltb payload_max received) _ _ h in
     let b = met (eqb padded payload_max) _ _ a.1 in
@@ -60,12 +55,12 @@ filled-lt t received h =
     ltb-true _ _ ((and-eq-true_iff (leb t.minimum received) _).0 b.1).1
 
 -- a refused call leaves the run as it was
-pub run-refused : (t : Table) (received padded : List ℕ) {e : DecodeRefusal} → prepared_of t (length received) (length padded) ≡ Refused e → run_after t received padded ≡ padded
-run-refused t received padded h = ap (λ (p : Prepared). kept_unless p (padded_of t received padded) padded) h
+pub run-refused : (t : Table) (received padded : List ℕ) {e : DecodeRefusal} → prepared_of t (length received) (length padded) ≡ Err e → run_after t received padded ≡ padded
+run-refused t received padded h = ap (λ (p : Result (Unit {0}) DecodeRefusal). kept_unless p (padded_of t received padded) padded) h
 
-module _ (t : Table) (received padded : List ℕ) (ready : prepared_of t (length received) (length padded) ≡ Ready) where
+module _ (t : Table) (received padded : List ℕ) (ready : prepared_of t (length received) (length padded) ≡ Ok tt) where
   run-ready : run_after t received padded ≡ padded_of t received padded
-  run-ready = ap (λ (p : Prepared). kept_unless p (padded_of t received padded) padded) ready
+  run-ready = ap (λ (p : Result (Unit {0}) DecodeRefusal). kept_unless p (padded_of t received padded) padded) ready
 
   -- so does one that fills nothing
   pub run-kept : fills t (length received) ≡ false → run_after t received padded ≡ padded

@@ -1,12 +1,12 @@
 -- What each call answers and leaves, as its contract says it: one equation for the answer, and one for the padding run at exit where it is lent to be written. They put
 -- the definitions of Filling, Decode and Steps together over the words and bytes themselves, and rule nothing of their own: only the code needs them.
-use Rattle.std.specs.Prelude.{◌≡◌, ℕ, List, length}
+use Rattle.std.specs.Prelude.{◌≡◌, ℕ, List, length, Result}
 use Rattle.tables.specs.Table.{table_of}
+use Rattle.fields.specs.declared.DecodeRefusal.{DecodeRefusal}
 use Rattle.fields.specs.Payload.{payload_of}
 use Rattle.descriptor.specs.declared.PgnValue.{PgnValue}
 use Rattle.fields.specs.declared.Raw.{Raw}
 use Rattle.reading.specs.declared.Span.{Span}
-use Rattle.reading.specs.declared.Prepared.{Prepared}
 use Rattle.reading.specs.declared.Decoded.{Decoded}
 use Rattle.reading.specs.Filling.{prepared_of, run_after}
 use Rattle.reading.specs.Decode.{walk_of, end_of, decoded_of_lem, reading_of}
@@ -14,7 +14,7 @@ use Rattle.reading.specs.Decode.{walk_of, end_of, decoded_of_lem, reading_of}
 -- ## Of what was received
 
 -- `prepare`
-abbrev pub Prepares : Prepared → List ℕ → List ℕ → List ℕ → List ℕ → Type 0
+abbrev pub Prepares : Result (Unit {0}) DecodeRefusal → List ℕ → List ℕ → List ℕ → List ℕ → Type 0
 Prepares r run words received padded =
     let t = table_of words in
     (r ≡ prepared_of t (length received) (length padded)) × (run ≡ run_after t received padded)

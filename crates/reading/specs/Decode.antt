@@ -1,6 +1,6 @@
 -- Decoding: document 01, "Reading a payload". The fields met, each with its span, up to the end or to the first refusal; and the readings,
 -- each made of its own span.
-use Rattle.std.specs.Prelude.{ℕ, ◌+◌, List, [], ◌∷◌, Bool, length, get_or, replicate, ltb}
+use Rattle.std.specs.Prelude.{ℕ, ◌+◌, List, [], ◌∷◌, Bool, length, get_or, replicate, ltb, Result, Ok, Err}
 use Rattle.bits.specs.Calls.{bits}
 use Rattle.tables.specs.Table.{Table}
 use Rattle.tables.specs.Check.{set_max}
@@ -16,8 +16,6 @@ use Rattle.fields.specs.declared.FieldRead.TheVariants.{Got, Skipped, Refused}
 use Rattle.reading.specs.declared.Span.{Span}
 use Rattle.reading.specs.declared.Reading.{Reading}
 use Rattle.reading.specs.declared.Progress.{Progress}
-use Rattle.reading.specs.declared.Prepared.{Prepared}
-use Rattle.reading.specs.declared.Prepared.TheVariants as prepared
 use Rattle.reading.specs.declared.Decoded.{Decoded}
 use Rattle.reading.specs.declared.Decoded.TheVariants as decoded
 use Rattle.fields.specs.Payload.{Payload, payload_of, bits_left}
@@ -96,18 +94,18 @@ end_of t p (ran vs s) = decoded.Ended s.at (length (readings t p vs))
 end_of t p (stopped vs f) = decoded.Refused f (length (readings t p vs))
 
 -- "7, 8, then the walk"
-abbrev pub decoded_in : Prepared → Table → Payload → ℕ → Decoded
-decoded_in prepared.Ready t p room = end_of t p (walk_of t p room)
-decoded_in (prepared.Refused e) t p room = decoded.Refused e 0
+abbrev pub decoded_in : Result (Unit {0}) DecodeRefusal → Table → Payload → ℕ → Decoded
+decoded_in (Ok tt) t p room = end_of t p (walk_of t p room)
+decoded_in (Err e) t p room = decoded.Refused e 0
 
 -- decoding what was received, with a padding run of so many bytes, and room for so many readings
 abbrev pub decoded_of_lem : Table → List ℕ → ℕ → ℕ → Decoded
 decoded_of_lem t received padded room = decoded_in (prepared_of t (length received) padded) t (payload_of (working_of t received)) room
 
 -- "7, 8, then the walk"
-abbrev pub read_into : Prepared → Table → Payload → ℕ → List Reading
-read_into prepared.Ready t p room = readings t p (spans_of (walk_of t p room))
-read_into (prepared.Refused e) t p room = []
+abbrev pub read_into : Result (Unit {0}) DecodeRefusal → Table → Payload → ℕ → List Reading
+read_into (Ok tt) t p room = readings t p (spans_of (walk_of t p room))
+read_into (Err e) t p room = []
 
 -- the readings that are handed out, a refused decode's too: "leaves the readings made before the fault, in order, with their count"
 abbrev pub readings_of : Table → List ℕ → ℕ → ℕ → List Reading

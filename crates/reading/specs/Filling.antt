@@ -1,14 +1,13 @@
 -- The working payload: document 01, "Reading a payload".
-use Rattle.std.specs.Prelude.{ℕ, ◌-◌, List, ◌++◌, Bool, ◌&&◌, length, take, drop, replicate, leb, ltb, eqb}
+use Rattle.std.specs.Prelude.{ℕ, ◌-◌, List, ◌++◌, Bool, ◌&&◌, length, take, drop, replicate, leb, ltb, eqb, Result, Ok, Err}
 use Rattle.bits.specs.Bits.{pick}
 use Rattle.bits.specs.Calls.{bytes}
 use Rattle.tables.specs.Table.{Table}
 use Rattle.tables.specs.Check.{check_of, payload_max}
 use Rattle.tables.specs.declared.Checked.{Checked}
 use Rattle.tables.specs.declared.Checked.TheVariants as checked
+use Rattle.fields.specs.declared.DecodeRefusal.{DecodeRefusal}
 use Rattle.fields.specs.declared.DecodeRefusal.TheVariants.{WrongLength, TableRefused}
-use Rattle.reading.specs.declared.Prepared.{Prepared}
-use Rattle.reading.specs.declared.Prepared.TheVariants.{Ready, Refused}
 
 -- "With minimum ≤ received < length": both are given
 abbrev pub fills : Table → ℕ → Bool
@@ -27,20 +26,20 @@ abbrev pub picked_of : Table → List ℕ → List ℕ → List ℕ
 picked_of t received padded = pick (fills t (length received)) (take t.length padded) received
 
 -- refusal 8
-abbrev pub by_check : Checked → Prepared
-by_check checked.Accepted = Ready
-by_check (checked.Refused rule index) = Refused (TableRefused rule index)
+abbrev pub by_check : Checked → Result (Unit {0}) DecodeRefusal
+by_check checked.Accepted = Ok tt
+by_check (checked.Refused rule index) = Err (TableRefused rule index)
 
 -- "payload [..] over 223 bytes, or padding run not of 223", "length (payload's first)"; "7, 8, then the walk"
-abbrev pub prepared_of : Table → ℕ → ℕ → Prepared
+abbrev pub prepared_of : Table → ℕ → ℕ → Result (Unit {0}) DecodeRefusal
 prepared_of t received padded =
-    pick (ltb payload_max received) (Refused (WrongLength (bytes received)))
-    (pick (eqb padded payload_max) (by_check (check_of t)) (Refused (WrongLength (bytes padded))))
+    pick (ltb payload_max received) (Err (WrongLength (bytes received)))
+    (pick (eqb padded payload_max) (by_check (check_of t)) (Err (WrongLength (bytes padded))))
 
 -- "Refusals 7 and 8 touch no buffer"
-abbrev pub kept_unless : Prepared → List ℕ → List ℕ → List ℕ
-kept_unless Ready filled padded = filled
-kept_unless (Refused e) filled padded = padded
+abbrev pub kept_unless : Result (Unit {0}) DecodeRefusal → List ℕ → List ℕ → List ℕ
+kept_unless (Ok tt) filled padded = filled
+kept_unless (Err e) filled padded = padded
 
 -- the padding run after the call
 abbrev pub run_after : Table → List ℕ → List ℕ → List ℕ

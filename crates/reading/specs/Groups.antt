@@ -1,5 +1,5 @@
 -- Counters and the elements of a set: document 01, "Reading a payload", "Group count".
-use Rattle.std.specs.Prelude.{ℕ, zero, suc, ◌/◌, min, List, set, leb, eqb}
+use Rattle.std.specs.Prelude.{ℕ, zero, suc, ◌/◌, min, List, set, leb, eqb, Result, Ok, Err}
 use Rattle.bits.specs.Bits.{pick}
 use Rattle.tables.specs.Table.{Table}
 use Rattle.tables.specs.Rules.{group_bits_lem}
@@ -12,8 +12,6 @@ use Rattle.fields.specs.declared.Raw.{Raw}
 use Rattle.fields.specs.declared.Raw.TheVariants as raw
 use Rattle.fields.specs.declared.DecodeRefusal.{DecodeRefusal}
 use Rattle.fields.specs.declared.DecodeRefusal.TheVariants.{RepetitionsExceedCapacity}
-use Rattle.reading.specs.declared.GroupCount.{GroupCount}
-use Rattle.reading.specs.declared.GroupCount.TheVariants.{Count, Refused}
 
 -- the counters of the first k sets, once field i has been read as r
 unfoldable pub noted_to : Table → ℕ → ℕ → List ℕ → ℕ → List ℕ
@@ -43,6 +41,6 @@ abbrev pub too_many : ℕ → ℕ → ℕ → DecodeRefusal
 too_many k n most = RepetitionsExceedCapacity k n most
 
 -- "then refusal 5 if over the maximum"
-abbrev pub group_count_of : Table → ℕ → ℕ → ℕ → GroupCount
+abbrev pub group_count_of : Table → ℕ → ℕ → ℕ → Result ℕ DecodeRefusal
 group_count_of t k r left =
-    pick (leb (element_count_lem t k r left) (t.set k).maximum) (Count (element_count_lem t k r left)) (Refused (too_many k (element_count_lem t k r left) (t.set k).maximum))
+    pick (leb (element_count_lem t k r left) (t.set k).maximum) (Ok (element_count_lem t k r left)) (Err (too_many k (element_count_lem t k r left) (t.set k).maximum))

@@ -6,7 +6,7 @@ ghost use Rattle.tables.specs.declared.Checked.TheVariants as checked;
 ghost use Rattle.reading.specs.Demand3.{room_enough_lem};
 ghost use Rattle.reading.specs.Clauses.{Decodes, walked_by};
 
-use crate::{Came, Decoded, Prepared, ROOM_ENOUGH, filling, turns};
+use crate::{Came, Decoded, ROOM_ENOUGH, filling, turns};
 
 // The walk through the working payload s, by an accepted table.
 fn walked(words: &[u64], s: &[u8], room: usize) -> Decoded
@@ -33,11 +33,11 @@ pub fn for_each_field(words: &[u64], received: &[u8], padded: &mut [u8], room: u
     ensures { Decodes result padded.new words.now received.now padded.old room }
 {
     match filling::prepare(words, received, padded) {
-        Prepared::Ready => {
+        Ok(()) => {
             let s = filling::pad_to_min_length(words, received, padded);
             walked(words, s, room)
         }
-        Prepared::Refused(refusal) => Decoded::Refused { refusal, count: 0 },
+        Err(refusal) => Decoded::Refused { refusal, count: 0 },
     }
 }
 

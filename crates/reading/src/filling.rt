@@ -4,7 +4,6 @@ ghost use Rattle.tables.specs.Table.{table_of};
 ghost use Rattle.reading.specs.Filling.{fills, picked_of, prepared_of};
 ghost use Rattle.reading.specs.Clauses.{Prepares};
 
-use crate::Prepared;
 use bits::{ByteCount, least};
 use fields::DecodeRefusal;
 use tables::Checked;
@@ -46,41 +45,34 @@ fn fill(received: &[u8], padded: &mut [u8], n: usize)
 }
 
 // 7, 8, or nothing.
-fn prepared(words: &[u64], received: usize, padded: usize) -> Prepared
+fn prepared(words: &[u64], received: usize, padded: usize) -> Result<(), DecodeRefusal>
     ensures { result ≡ prepared_of (table_of words.now) received padded }
 {
     if tables::PAYLOAD_MAX < received {
-        return Prepared::Refused(DecodeRefusal::WrongLength {
+        return Err(DecodeRefusal::WrongLength {
             length: ByteCount(received),
         });
     }
-    if padded == tables::PAYLOAD_MAX {
-        return match tables::check(words) {
-            Checked::Accepted => Prepared::Ready,
-            Checked::Refused { rule, index } => {
-                Prepared::Refused(DecodeRefusal::TableRefused { rule, index })
-            }
-        };
+    if padded != tables::PAYLOAD_MAX {
+        return Err(DecodeRefusal::WrongLength {
+            length: ByteCount(padded),
+        });
     }
-    Prepared::Refused(DecodeRefusal::WrongLength {
-        length: ByteCount(padded),
-    })
+    match tables::check(words) {
+        Checked::Accepted => Ok(()),
+        Checked::Refused { rule, index } => Err(DecodeRefusal::TableRefused { rule, index }),
+    }
 }
 
 // Refusal 7 or 8, or nothing; then the padding run is filled if the table asks for it.
-pub fn prepare(words: &[u64], received: &[u8], padded: &mut [u8]) -> Prepared
+pub fn prepare(words: &[u64], received: &[u8], padded: &mut [u8]) -> Result<(), DecodeRefusal>
     ensures { Prepares result padded.new words.now received.now padded.old }
 {
-    match prepared(words, received.len(), padded.len()) {
-        Prepared::Ready => {
-            if is_filled(words, received.len()) {
-                fill(received, padded, tables::length_of(words));
-                return Prepared::Ready;
-            }
-            Prepared::Ready
-        }
-        Prepared::Refused(e) => Prepared::Refused(e),
+    prepared(words, received.len(), padded.len())?;
+    if is_filled(words, received.len()) {
+        fill(received, padded, tables::length_of(words));
     }
+    Ok(())
 }
 
 // The first n bytes, as far as there are so many.

@@ -3,7 +3,6 @@ ghost use Rattle.std.specs.Prelude.{◌≡◌, get_or};
 ghost use Rattle.tables.specs.Table.{table_of};
 ghost use Rattle.reading.specs.Groups.{noted as noted_of, noted_by_lem, fitting as fittingOf, element_count_lem, group_count_of};
 
-use crate::GroupCount;
 use bits::{BitPos, least};
 use fields::{DecodeRefusal, Raw};
 use walking::Element;
@@ -85,16 +84,16 @@ pub fn repeating_group_count(
     k: usize,
     counter_raw: u64,
     bits_remaining: BitPos,
-) -> GroupCount
+) -> Result<usize, DecodeRefusal>
     ensures { result ≡ group_count_of (table_of words.now) k counter_raw bits_remaining.0 }
 {
     let n = element_count(words, k, counter_raw, bits_remaining.0);
     let set = tables::set_at(words, k);
     let maximum = set.maximum;
     if n <= maximum {
-        return GroupCount::Count(n);
+        return Ok(n);
     }
-    GroupCount::Refused(DecodeRefusal::RepetitionsExceedCapacity {
+    Err(DecodeRefusal::RepetitionsExceedCapacity {
         set: k,
         count: n,
         maximum,

@@ -87,20 +87,6 @@ pub struct Next {
     pub walk: Walk,
 }
 
-// The answer of `prepare`.
-#[derive(Clone, Copy)]
-pub enum Prepared {
-    Ready,
-    Refused(DecodeRefusal),
-}
-
-// The answer of `repeating_group_count`.
-#[derive(Clone, Copy)]
-pub enum GroupCount {
-    Count(usize),
-    Refused(DecodeRefusal),
-}
-
 // The answer of `for_each_field`, with the number of readings made.
 #[derive(Clone, Copy)]
 pub enum Decoded {

@@ -7,7 +7,7 @@ ghost use Rattle.reading.specs.Clauses.{ReadOf};
 ghost use Rattle.reading.specs.Decode.{reading_of};
 ghost use Rattle.reading.specs.Steps.{next_to, shown_at, next_of, start_of, came_to_lem};
 
-use crate::{Answer, Came, Decoded, GroupCount, Next, Progress, Reading, Span, Walk, groups};
+use crate::{Answer, Came, Decoded, Next, Progress, Reading, Span, Walk, groups};
 use bits::{BitPos, Cursor};
 use descriptor::PgnValue;
 use fields::{DecodeRefusal, FieldRead, Raw, field_availability, read_field_raw_and_value};
@@ -125,7 +125,7 @@ fn enter(words: &[u64], s: &[u8], k: usize, p: Progress, here: Spot) -> Next
     let left = c.bits_remaining(s);
     let raw = groups::counter_at(cs, k);
     match groups::repeating_group_count(words, k, raw, left) {
-        GroupCount::Count(n) => {
+        Ok(n) => {
             let to = Spot::Within {
                 set: k,
                 count: n,
@@ -134,7 +134,7 @@ fn enter(words: &[u64], s: &[u8], k: usize, p: Progress, here: Spot) -> Next
             };
             next(Answer::Moved, to, p)
         }
-        GroupCount::Refused(e) => next(Answer::Refused(e), here, p),
+        Err(e) => next(Answer::Refused(e), here, p),
     }
 }
 

@@ -5,10 +5,10 @@ use mathlib.Core.Bool.{true}
 use mathlib.Core.List.{List}
 use Prim.Native.Nat.{ℕ}
 use lib.ListN.{length}
+use Rattle.std.specs.Prelude.{Result}
 use Rattle.tables.specs.Table.{Table}
 use Rattle.fields.specs.declared.DecodeRefusal.{DecodeRefusal}
 use Rattle.fields.specs.Refusals.{number_of, touches_nothing_lem}
-use Rattle.reading.specs.declared.Prepared.{Prepared}
 use Rattle.reading.specs.declared.Decoded.TheVariants.{Refused}
 use Rattle.reading.specs.Filling.{kept_unless, run_after}
 use Rattle.reading.specs.Decode.{readings_of}
@@ -23,4 +23,4 @@ pub untouched : (t : Table) (received padded out : List ℕ) (f : DecodeRefusal)
 untouched t received padded out f n h z =
     let room = room_in_lem (length out) in
     let q = before-walk t received padded room f n h z in
-    (run-refused t received padded q, ap (λ (p : Prepared). kept_unless p (stored_in (readings_of t received (length padded) room) out) out) q)
+    (run-refused t received padded q, ap (λ (p : Result (Unit {0}) DecodeRefusal). kept_unless p (stored_in (readings_of t received (length padded) room) out) out) q)

@@ -9,7 +9,7 @@ ghost use Rattle.records.specs.Clauses.{Walks, DecodesInto};
 
 use crate::layout::put_word;
 use crate::walks;
-use reading::{Decoded, Prepared};
+use reading::Decoded;
 
 // How many records a buffer of so many bytes has room for, beside the count.
 pub fn room_in(len: usize) -> usize
@@ -56,10 +56,10 @@ pub fn decode_into(words: &[u64], received: &[u8], padded: &mut [u8], out: &mut 
     ensures { DecodesInto result padded.new out.new words.now received.now padded.old out.old }
 {
     match reading::prepare(words, received, padded) {
-        Prepared::Ready => {
+        Ok(()) => {
             let s = reading::pad_to_min_length(words, received, padded);
             walked(words, s, out)
         }
-        Prepared::Refused(refusal) => Decoded::Refused { refusal, count: 0 },
+        Err(refusal) => Decoded::Refused { refusal, count: 0 },
     }
 }

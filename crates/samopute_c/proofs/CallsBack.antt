@@ -6,12 +6,13 @@ use mathlib.Core.List.{List}
 use Prim.Native.Nat.{ℕ, ◌+◌, ◌*◌, ◌≤◌}
 use native.Mathlib.Omega.{arith}
 use lib.ListN.{length, get_or, take}
+use Rattle.std.specs.Prelude.{Result}
 use Rattle.bits.specs.Calls.{bytes}
 use Rattle.tables.specs.Table.{Table, table_of}
 use Rattle.tables.specs.Check.{payload_max}
+use Rattle.fields.specs.declared.DecodeRefusal.{DecodeRefusal}
 use Rattle.fields.specs.Payload.{payload_of}
 use Rattle.reading.specs.declared.Reading.{Reading}
-use Rattle.reading.specs.declared.Prepared.{Prepared}
 use Rattle.reading.specs.Filling.{working_of, prepared_of, kept_unless}
 use Rattle.reading.specs.Decode.{readings, readings_of, decoded_of_lem}
 use Rattle.reading.specs.Demand3.{room_enough_lem}
@@ -88,7 +89,7 @@ then-decoded κs a x s p ls b y z q ok values texts words got run big =
           ∙ ap decoded_status k.decodes;
       holds = q.1.1.0
           ∙ ap₂ (λ (ws : List ℕ) (m : ℕ). kept_unless (prepared_of (table_of ws) (length received) m) (stored_in (readings_of (table_of ws) received m room) out) out) words run
-          ∙ ap (λ (g : Prepared). kept_unless g (stored_in (readings_of t received payload_max room) out) out) ready
+          ∙ ap (λ (g : Result (Unit {0}) DecodeRefusal). kept_unless g (stored_in (readings_of t received payload_max room) out) out) ready
           ∙ ap (λ (rs : List Reading). stored_in rs out) k.reads;
       back = k;
     }

@@ -11,6 +11,7 @@ use lib.Ieee.{binary32}
 use lib.Ieee.Bits.{of_bits-fits}
 use lib.ListN.{length, take, get_or}
 use borrow.Author.Tests.{ltb-false, le-ltb}
+use Rattle.std.specs.Prelude.{Result, Ok}
 use Rattle.bits.specs.Bits.{pick}
 use Rattle.bits.specs.Calls.{bytes}
 use Rattle.bits.specs.declared.ByteCount.{ByteCount}
@@ -29,8 +30,6 @@ use Rattle.fields.specs.Payload.{Payload, payload_of}
 use Rattle.fields.specs.Shapes.{shape_of}
 use Rattle.reading.specs.declared.Span.{Span}
 use Rattle.reading.specs.declared.Progress.{Progress}
-use Rattle.reading.specs.declared.Prepared.{Prepared}
-use Rattle.reading.specs.declared.Prepared.TheVariants as prepared
 use Rattle.reading.specs.declared.Decoded.TheVariants as decoded
 use Rattle.reading.specs.Filling.{working_of, prepared_of}
 use Rattle.reading.specs.Decode.{progress_at, walk_of, reading_of, readings, spans_of, decoded_in, decoded_of_lem, read_into, readings_of}
@@ -91,7 +90,7 @@ module _ (t : Table) (ok : check_of t ≡ checked.Accepted) (p : Payload) (room 
 
 -- ## The answers
 
-ready : (t : Table) → check_of t ≡ checked.Accepted → (received : ℕ) → received ≤ payload_max → prepared_of t received payload_max ≡ prepared.Ready
+ready : (t : Table) → check_of t ≡ checked.Accepted → (received : ℕ) → received ≤ payload_max → prepared_of t received payload_max ≡ Ok tt
 ready t ok received l = rw (le-ltb payload_max received l, ok)
 
 module _ (t : Table) (ok : check_of t ≡ checked.Accepted) (received : List ℕ) (short : length received ≤ payload_max) (room : ℕ) where
@@ -101,12 +100,12 @@ module _ (t : Table) (ok : check_of t ≡ checked.Accepted) (received : List ℕ
   -- a walk that ran is the decode's answer and its readings
   answers : (vs : List Span) (s : Progress) → walk_of t working room ≡ ran vs s → decoded_of_lem t received payload_max room ≡ decoded.Ended s.at (unskipped_in t vs)
   answers vs s e =
-      ap (λ (a : Prepared). decoded_in a t working room) (ready t ok (length received) short) ∙ ap (decode.end_of t working) e
+      ap (λ (a : Result (Unit {0}) DecodeRefusal). decoded_in a t working room) (ready t ok (length received) short) ∙ ap (decode.end_of t working) e
       ∙ ap (decoded.Ended s.at) (count-unskipped t working vs)
 
   reads_all : (vs : List Span) (s : Progress) → walk_of t working room ≡ ran vs s → readings_of t received payload_max room ≡ readings t working vs
   reads_all vs s e =
-      ap (λ (a : Prepared). read_into a t working room) (ready t ok (length received) short) ∙ ap (λ (r : Run Span Progress DecodeRefusal). readings t working (spans_of r)) e
+      ap (λ (a : Result (Unit {0}) DecodeRefusal). read_into a t working room) (ready t ok (length received) short) ∙ ap (λ (r : Run Span Progress DecodeRefusal). readings t working (spans_of r)) e
 
 -- ## What encode accepted
 

@@ -11,7 +11,7 @@ use Rattle.reading.proofs.filling.prepare.Goals as goal
 pub fill-requires : goal.fill-requires
 fill-requires c =
     let t = table_of c.args.words.now in
-    let r = readied t (length c.args.received.now) (length c.args.padded.now) ((sym c.prepared.ensures ∙ c.in-Ready.is)) in
+    let r = readied t (length c.args.received.now) (length c.args.padded.now) ((sym c.prepared.ensures ∙ c.in_ok-prepared.was)) in
     let l = filled-lt t (length c.args.received.now) (sym c.is_filled.ensures ∙ c.if-is_filled.true) in
     let s = sizes t r.table in
     (omega arith, omega arith)
