@@ -2,6 +2,7 @@
 use mathlib.Core.Path.{◌≡◌, refl}
 use mathlib.Core.Bool.{Bool, true, false, ◌&&◌}
 use mathlib.Core.List.{List, [], ◌∷◌}
+use Rattle.std.specs.Prelude.{Option, Some, None}
 use Prim.Native.Nat.{ℕ, ◌+◌, ◌*◌, ◌≤◌}
 use native.Mathlib.Omega.{arith}
 use borrow.Author.Tests.{leb-true}
@@ -18,8 +19,7 @@ use Rattle.columns.specs.Runs.{values_of}
 use Rattle.lines.specs.Machine.{newline}
 use Rattle.tables.specs.Table.{table_of}
 use Rattle.messages.specs.Messages.{message_of_lem, words_of}
-use Rattle.messages.specs.declared.Known.{Known}
-use Rattle.messages.specs.declared.Known.TheVariants as known
+use Rattle.messages.specs.declared.Message.{Message}
 use Rattle.weighing.specs.Refusals.{number_of, carried_of}
 use Rattle.weighing.specs.declared.EncodeRefusal.{EncodeRefusal}
 use Rattle.offers.specs.Records.{values_in}
@@ -99,10 +99,10 @@ module _ (values lent : List ℕ) where
       let x = encoded_of t (values_in values) (length lent) (length blank) in
       omega (arith, length-append (made_text pgn payload x) (newline ∷ []), made-size pgn payload x (after-size t (values_in values) lent blank))
 
-  known-size : (k : Known) (pgn : ℕ) → length (known_text k pgn values lent) ≤ answer_max
+  known-size : (k : Option Message) (pgn : ℕ) → length (known_text k pgn values lent) ≤ answer_max
   unfolding unknown_line
-  known-size (known.Message m) pgn = frame-size (words_of m) pgn
-  known-size known.Unknown pgn = omega (arith, length-append (pgn_text pgn) (newline ∷ []), fixed-size 16 6 pgn)
+  known-size (Some m) pgn = frame-size (words_of m) pgn
+  known-size None pgn = omega (arith, length-append (pgn_text pgn) (newline ∷ []), fixed-size 16 6 pgn)
 
   order-size : (line : List ℕ) → length (order_text line values lent) ≤ answer_max
   unfolding order_text pgn_line

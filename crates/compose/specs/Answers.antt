@@ -1,5 +1,5 @@
 -- What a line is answered: docs/PROGRAMS.md, "Values in, frames out", and src/main.rt.
-use Rattle.std.specs.Prelude.{ℕ, List, [], ◌∷◌, ◌++◌, Bool, ◌&&◌, eqb, leb, length, take, drop, get_or, replicate}
+use Rattle.std.specs.Prelude.{ℕ, Option, Some, None, List, [], ◌∷◌, ◌++◌, Bool, ◌&&◌, eqb, leb, length, take, drop, get_or, replicate}
 use Rattle.bits.specs.Bits.{pick}
 use Rattle.hexadecimal.specs.Digits.{digits_of}
 use Rattle.text.specs.Digits.{spaced, bytes_text}
@@ -12,8 +12,7 @@ use Rattle.lines.specs.Held.{capped}
 use Rattle.tables.specs.Table.{table_of}
 use Rattle.tables.specs.Check.{payload_max}
 use Rattle.messages.specs.Messages.{message_of_lem, words_of}
-use Rattle.messages.specs.declared.Known.{Known}
-use Rattle.messages.specs.declared.Known.TheVariants as known
+use Rattle.messages.specs.declared.Message.{Message}
 use Rattle.weighing.specs.Refusals.{number_of, carried_of}
 use Rattle.weighing.specs.declared.EncodeRefusal.{EncodeRefusal}
 use Rattle.offers.specs.Records.{values_in}
@@ -88,9 +87,9 @@ frame_line words pgn values lent =
     ++ newline ∷ []
 
 -- "a PGN that is not built in F 15 with the PGN"
-abbrev pub known_text : Known → ℕ → List ℕ → List ℕ → List ℕ
-known_text (known.Message m) pgn values lent = frame_line (words_of m) pgn values lent
-known_text known.Unknown pgn values lent = unknown_line pgn
+abbrev pub known_text : Option Message → ℕ → List ℕ → List ℕ → List ℕ
+known_text (Some m) pgn values lent = frame_line (words_of m) pgn values lent
+known_text None pgn values lent = unknown_line pgn
 
 -- "PGN VALUES..": "by its PGN in six digits"
 unfoldable pub pgn_line : List ℕ → List ℕ → List ℕ → List ℕ

@@ -5,7 +5,7 @@ ghost use Rattle.messages.specs.Messages.{message_of_lem, words_of};
 ghost use Rattle.compose.specs.Answers.{frame_line, known_text, pgn_line, encode_text, buffer_of, table_text};
 
 use crate::answers::{put_buffer, put_made, put_malformed, put_outcome};
-use messages::{Known, Message};
+use messages::Message;
 use text::put;
 
 const PGN_DIGITS: usize = 6;
@@ -57,8 +57,8 @@ fn put_known(pgn: u32, values: &[u8], lent: &[u8], out: &mut [u8], at: usize) ->
     ensures { Puts out.old at (known_text (message_of_lem pgn) pgn values.now lent.now) out.new result }
 {
     match messages::message_of(pgn) {
-        Known::Message(message) => put_message(message, pgn, values, lent, out, at),
-        Known::Unknown => frame_lines::put_unknown(out, at, pgn),
+        Some(message) => put_message(message, pgn, values, lent, out, at),
+        None => frame_lines::put_unknown(out, at, pgn),
     }
 }
 

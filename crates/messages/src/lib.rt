@@ -24,13 +24,6 @@ pub enum Message {
     M130900,
 }
 
-// The message of a PGN, if it is a built-in one.
-#[derive(Clone, Copy)]
-pub enum Known {
-    Message(Message),
-    Unknown,
-}
-
 // The kinds by their codes.
 const NUMBER: u64 = 0;
 

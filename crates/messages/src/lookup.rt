@@ -2,7 +2,7 @@
 ghost use Rattle.std.specs.Prelude.{◌≡◌};
 ghost use Rattle.messages.specs.Messages.{message_of_lem};
 
-use crate::{Known, Message};
+use crate::Message;
 
 const PGN_129025: u32 = 0x01_f801;
 
@@ -12,21 +12,15 @@ const PGN_129029: u32 = 0x01_f805;
 
 const PGN_130900: u32 = 0x01_ff54;
 
-// The message of a PGN: all of its bits are compared.
-pub fn message_of(pgn: u32) -> Known
+// The message of a PGN, if it is a built-in one: all of its bits are compared.
+pub fn message_of(pgn: u32) -> Option<Message>
     ensures { result ≡ message_of_lem pgn }
 {
-    if pgn == PGN_129025 {
-        return Known::Message(Message::M129025);
+    match pgn {
+        PGN_129025 => Some(Message::M129025),
+        PGN_129026 => Some(Message::M129026),
+        PGN_129029 => Some(Message::M129029),
+        PGN_130900 => Some(Message::M130900),
+        _ => None,
     }
-    if pgn == PGN_129026 {
-        return Known::Message(Message::M129026);
-    }
-    if pgn == PGN_129029 {
-        return Known::Message(Message::M129029);
-    }
-    if pgn == PGN_130900 {
-        return Known::Message(Message::M130900);
-    }
-    Known::Unknown
 }

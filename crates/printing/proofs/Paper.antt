@@ -7,7 +7,7 @@ use native.Mathlib.Omega.{arith}
 use borrow.Author.Tests.{ltb-false}
 use lib.Dec.{eqb, leb, ltb}
 use lib.ListN.{length, take, set, replicate, length-set, length-replicate}
-use Rattle.std.specs.Prelude.{Result, Ok, Err}
+use Rattle.std.specs.Prelude.{Option, Some, None, Result, Ok, Err}
 use Rattle.bits.specs.Bits.{pick}
 use Rattle.bits.specs.Calls.{bytes}
 use Rattle.hexadecimal.specs.Digits.{value_of}
@@ -19,8 +19,6 @@ use Rattle.tables.specs.Table.{table_of}
 use Rattle.tables.specs.Check.{check_of, payload_max}
 use Rattle.messages.specs.declared.Message.{Message}
 use Rattle.messages.specs.declared.Message.TheVariants.{M129025, M129026, M129029, M130900}
-use Rattle.messages.specs.declared.Known.{Known}
-use Rattle.messages.specs.declared.Known.TheVariants as known
 use Rattle.messages.specs.Messages.{message_of_lem, words_of}
 use Rattle.messages.proofs.Accepted.{accepted}
 use Rattle.fields.specs.declared.DecodeRefusal.{DecodeRefusal}
@@ -75,9 +73,9 @@ payload-by m p buffer false e h =
 
 -- ## A line
 
-known_by : (k : Known) (pgn : ℕ) (p buffer : List ℕ) → (length p ≤ payload_max → take (length p) buffer ≡ p) → answer_by (known_frame pgn (length p) k) buffer ≡ frame_text (known_frame pgn (length p) k) p
-known_by (known.Message m) pgn p buffer h = ap (λ (x : List ℕ). frame_line pgn (length p) ++ x) (payload-by m p buffer (ltb payload_max (length p)) refl h)
-known_by known.Unknown pgn p buffer h = refl
+known_by : (k : Option Message) (pgn : ℕ) (p buffer : List ℕ) → (length p ≤ payload_max → take (length p) buffer ≡ p) → answer_by (known_frame pgn (length p) k) buffer ≡ frame_text (known_frame pgn (length p) k) p
+known_by (Some m) pgn p buffer h = ap (λ (x : List ℕ). frame_line pgn (length p) ++ x) (payload-by m p buffer (ltb payload_max (length p)) refl h)
+known_by None pgn p buffer h = refl
 
 parsed-by : (x : Parsed) (buffer : List ℕ) → ((pgn : ℕ) (p : List ℕ) → x ≡ parsed pgn p → length p ≤ payload_max → take (length p) buffer ≡ p) → answer_by (frame_of x) buffer ≡ answer_to x
 parsed-by malformed buffer h = refl

@@ -1,17 +1,16 @@
 -- Decoding by the number of a message whose table is built in.
-use Rattle.std.specs.Prelude.{ℕ, List}
+use Rattle.std.specs.Prelude.{ℕ, List, Option, Some, None}
 use Rattle.tables.specs.Table.{table_of}
-use Rattle.messages.specs.declared.Known as found
-use Rattle.messages.specs.declared.Known.TheVariants as found_as
+use Rattle.messages.specs.declared.Message.{Message}
 use Rattle.messages.specs.Messages.{message_of_lem, words_of}
 use Rattle.records.specs.declared.ByPgn.{ByPgn}
 use Rattle.records.specs.declared.ByPgn.TheVariants.{Unknown, Known}
 use Rattle.records.specs.Into.{decoded_into, out_after}
 
 -- what comes of the words of a message's table, or of a PGN that has none
-abbrev pub of_known : {A : Type 0} → (List ℕ → A) → A → found.Known → A
-of_known f none (found_as.Message m) = f (words_of m)
-of_known f none found_as.Unknown = none
+abbrev pub of_known : {A : Type 0} → (List ℕ → A) → A → Option Message → A
+of_known f none (Some m) = f (words_of m)
+of_known f none None = none
 
 -- "Also built in: 129025, 129029 [..], and ours, 130900", beside 129026: the same by the PGN
 abbrev pub of_built_in : {A : Type 0} → ℕ → (List ℕ → A) → A → A

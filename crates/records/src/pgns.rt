@@ -10,7 +10,7 @@ ghost use Rattle.records.specs.Clauses.{Reads, DecodesByPgn};
 use crate::{ByPgn, into};
 use bits::ByteCount;
 use fields::DecodeRefusal;
-use messages::{Known, Message};
+use messages::Message;
 use reading::Decoded;
 
 // By an accepted table that fills nothing.
@@ -55,10 +55,10 @@ pub fn decode_pgn_into(pgn: u32, received: &[u8], padded: &[u8], out: &mut [u8])
     ensures { DecodesByPgn result out.new pgn received.now (length padded.now) out.old }
 {
     match messages::message_of(pgn) {
-        Known::Message(message) => {
+        Some(message) => {
             let decoded = by_message(message, received, padded, out);
             ByPgn::Known(decoded)
         }
-        Known::Unknown => ByPgn::Unknown,
+        None => ByPgn::Unknown,
     }
 }

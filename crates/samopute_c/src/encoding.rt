@@ -4,7 +4,7 @@ ghost use Rattle.messages.specs.Messages.{words_of};
 ghost use Rattle.samopute_c.specs.Encodes.{encoded_status, encoded_cells};
 ghost use Rattle.samopute_c.specs.Clauses.{Encodes, EncodesPgn};
 
-use messages::{Known, Message};
+use messages::Message;
 use writing::Encoded;
 
 // Lays out an encode's answer: its status is 0, or the refusal's number.
@@ -72,8 +72,8 @@ pub fn samopute_encode_pgn(
     ensures { EncodesPgn result payload.new answer.new pgn values.now text.now payload.old }
 {
     match messages::message_of(pgn) {
-        Known::Message(message) => by_message(message, values, text, payload, answer),
-        Known::Unknown => {
+        Some(message) => by_message(message, values, text, payload, answer),
+        None => {
             *answer = [0, pgn as u64, 0, 0];
             15
         }
