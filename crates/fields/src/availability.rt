@@ -20,23 +20,14 @@ fn unless_it(absent: bool) -> Availability
 fn is_end(byte: u8) -> bool
     ensures { result ≡ ends byte }
 {
-    if byte == 0xff {
-        return true;
-    }
-    if byte == 0x40 {
-        return true;
-    }
-    byte == 0
+    matches!(byte, 0xff | 0x40 | 0)
 }
 
 // The byte at a place, which is 0 past the end.
 fn byte_at(s: &[u8], place: usize) -> u8
     ensures { result ≡ (payload_of s.now).bits (8 * place) 8 }
 {
-    if place < s.len() {
-        return s[place];
-    }
-    0
+    s.get(place).copied().unwrap_or(0)
 }
 
 // Of a StringFix: empty up to its first end.
@@ -46,12 +37,7 @@ fn fixed_says(s: &[u8], value: PgnValue) -> Availability
     let PgnValue::Bytes(b) = value else {
         return Availability::Available;
     };
-    let start = b.start.0;
-    let len = b.len.0;
-    if len == 0 {
-        return Availability::NotAvailable;
-    }
-    unless_it(is_end(byte_at(s, start)))
+    unless_it(b.len.0 == 0 || is_end(byte_at(s, b.start.0)))
 }
 
 // Of a StringLau or a StringLz: without text.
@@ -61,8 +47,7 @@ fn text_says(value: PgnValue) -> Availability
     let PgnValue::Bytes(b) = value else {
         return Availability::Available;
     };
-    let len = b.len.0;
-    unless_it(len == 0)
+    unless_it(b.len.0 == 0)
 }
 
 fn raw_says(f: FieldDescriptor, raw: Raw) -> Availability
@@ -79,11 +64,9 @@ pub fn field_availability(s: &[u8], f: FieldDescriptor, raw: Raw, value: PgnValu
     ensures { result ≡ availability_of (payload_of s.now) f raw value }
 {
     match shapes::shape_of(f) {
-        Shape::Number { strict: _ } => raw_says(f, raw),
-        Shape::Gap => Availability::Available,
+        Shape::Number { .. } => raw_says(f, raw),
         Shape::Fixed => fixed_says(s, value),
-        Shape::Whole => Availability::Available,
-        Shape::Lau => text_says(value),
-        Shape::Lz => text_says(value),
+        Shape::Lau | Shape::Lz => text_says(value),
+        Shape::Gap | Shape::Whole => Availability::Available,
     }
 }

@@ -9,28 +9,25 @@ use descriptor::{FieldDescriptor, FieldKind};
 pub fn shape_of(f: FieldDescriptor) -> Shape
     ensures { result ≡ shape_of f }
 {
-    let kind = f.kind;
-    let width = f.width;
-    match kind {
-        FieldKind::Number => Shape::Number { strict: true },
-        FieldKind::Float => Shape::Number { strict: false },
-        FieldKind::Lookup => Shape::Number { strict: true },
-        FieldKind::IndirectLookup => Shape::Number { strict: true },
-        FieldKind::BitLookup => Shape::Number { strict: true },
-        FieldKind::Pgn => Shape::Number { strict: true },
-        FieldKind::Date => Shape::Number { strict: false },
-        FieldKind::Time => Shape::Number { strict: false },
-        FieldKind::Duration => Shape::Number { strict: false },
-        FieldKind::Mmsi => Shape::Number { strict: false },
-        FieldKind::Decimal => Shape::Number { strict: false },
+    match f.kind {
+        FieldKind::BitLookup
+        | FieldKind::Number
+        | FieldKind::Lookup
+        | FieldKind::IndirectLookup
+        | FieldKind::Pgn
+        | FieldKind::IsoName => Shape::Number { strict: true },
+        FieldKind::Float
+        | FieldKind::Date
+        | FieldKind::Time
+        | FieldKind::Duration
+        | FieldKind::Mmsi
+        | FieldKind::Decimal
+        | FieldKind::Unimplemented => Shape::Number { strict: false },
         FieldKind::StringFix => Shape::Fixed,
         FieldKind::StringLz => Shape::Lz,
         FieldKind::StringLau => Shape::Lau,
-        FieldKind::Binary => binary(width),
-        FieldKind::Reserved => Shape::Gap,
-        FieldKind::Spare => Shape::Gap,
-        FieldKind::IsoName => Shape::Number { strict: true },
-        FieldKind::Unimplemented => Shape::Number { strict: false },
+        FieldKind::Binary => binary(f.width),
+        FieldKind::Reserved | FieldKind::Spare => Shape::Gap,
     }
 }
 
@@ -48,28 +45,14 @@ fn binary(width: u32) -> Shape
 pub fn is_number(f: FieldDescriptor) -> bool
     ensures { result ≡ is_number (shape_of f) }
 {
-    let kind = f.kind;
-    let width = f.width;
-    match kind {
-        FieldKind::Number => true,
-        FieldKind::Float => true,
-        FieldKind::Lookup => true,
-        FieldKind::IndirectLookup => true,
-        FieldKind::BitLookup => true,
-        FieldKind::Pgn => true,
-        FieldKind::Date => true,
-        FieldKind::Time => true,
-        FieldKind::Duration => true,
-        FieldKind::Mmsi => true,
-        FieldKind::Decimal => true,
-        FieldKind::StringFix => false,
-        FieldKind::StringLz => false,
-        FieldKind::StringLau => false,
-        FieldKind::Binary => width % 8 != 0,
-        FieldKind::Reserved => false,
-        FieldKind::Spare => false,
-        FieldKind::IsoName => true,
-        FieldKind::Unimplemented => true,
+    match f.kind {
+        FieldKind::Binary => f.width % 8 != 0,
+        FieldKind::StringFix
+        | FieldKind::StringLz
+        | FieldKind::StringLau
+        | FieldKind::Reserved
+        | FieldKind::Spare => false,
+        _ => true,
     }
 }
 
@@ -77,26 +60,5 @@ pub fn is_number(f: FieldDescriptor) -> bool
 pub fn is_gap(f: FieldDescriptor) -> bool
     ensures { result ≡ is_gap_lem (shape_of f) }
 {
-    let kind = f.kind;
-    match kind {
-        FieldKind::Number => false,
-        FieldKind::Float => false,
-        FieldKind::Lookup => false,
-        FieldKind::IndirectLookup => false,
-        FieldKind::BitLookup => false,
-        FieldKind::Pgn => false,
-        FieldKind::Date => false,
-        FieldKind::Time => false,
-        FieldKind::Duration => false,
-        FieldKind::Mmsi => false,
-        FieldKind::Decimal => false,
-        FieldKind::StringFix => false,
-        FieldKind::StringLz => false,
-        FieldKind::StringLau => false,
-        FieldKind::Binary => false,
-        FieldKind::Reserved => true,
-        FieldKind::Spare => true,
-        FieldKind::IsoName => false,
-        FieldKind::Unimplemented => false,
-    }
+    matches!(f.kind, FieldKind::Reserved | FieldKind::Spare)
 }
