@@ -1,4 +1,5 @@
 -- An encode by a message's table or by any table, and the orders of a line. Assumes nothing.
+use Rattle.std.specs.Prelude.{Result, Ok, Err}
 use mathlib.Core.Path.{◌≡◌, refl, sym, ap, ap₂, ◌∙◌}
 use mathlib.Core.Bool.{Bool, true, false, ◌&&◌}
 use mathlib.Core.List.{List, [], ◌∷◌, ◌++◌}
@@ -8,6 +9,8 @@ use borrow.Author.Tests.{leb-true, eqb-true}
 use lib.Dec.{eqb, leb}
 use lib.ListN.{length, take, drop, replicate, length-append, length-replicate}
 use lib.Seq.{take_at}
+use Rattle.weighing.specs.declared.EncodeRefusal.{EncodeRefusal}
+use Rattle.bits.specs.declared.ByteCount.{ByteCount}
 use Rattle.bits.specs.Bits.{pick}
 use Rattle.hexadecimal.proofs.Inverse.{both}
 use Rattle.columns.specs.Parts.{parts_of, field}
@@ -21,9 +24,6 @@ use Rattle.tables.specs.Table.{Table, table_of}
 use Rattle.messages.specs.Messages.{message_of_lem}
 use Rattle.offers.specs.Records.{values_in}
 use Rattle.offers.specs.Values.{Values}
-use Rattle.writing.specs.declared.Begun.{Begun}
-use Rattle.writing.specs.declared.Begun.TheVariants as begun
-use Rattle.writing.specs.declared.Encoded.{Encoded}
 use Rattle.writing.specs.Encode.{begun_of, writes_of, marks_of, encoded_of, buffer_in, buffer_after}
 use Rattle.writing.proofs.Loops.{length-image}
 use Rattle.frame_lines.specs.Lines.{malformed_line}
@@ -47,16 +47,16 @@ first-same n m a l = let k : n - 0 ≡ n = omega arith in ap (λ (i : ℕ). take
 pub after-size : (t : Table) (vs : Values) (lent buffer : List ℕ) → length (buffer_after t vs lent buffer) ≡ length buffer
 after-size t vs lent buffer = go (begun_of t (length buffer))
   where
-    go : (r : Begun) → length (buffer_in r t vs lent buffer) ≡ length buffer
-    go begun.Ready = length-image (length buffer) (marks_of (writes_of t vs.offered (length lent) (length buffer))) lent
-    go (begun.Refused e) = refl
+    go : (r : Result (Unit {0}) EncodeRefusal) → length (buffer_in r t vs lent buffer) ≡ length buffer
+    go (Ok u) = length-image (length buffer) (marks_of (writes_of t vs.offered (length lent) (length buffer))) lent
+    go (Err e) = refl
 
 -- the first bytes of the largest buffer
 abbrev pub first_of : ℕ → List ℕ
 first_of size = take (size - 0) (buffer_of 300)
 
 -- an encode into them
-module _ (words values lent : List ℕ) (size : ℕ) (l : size ≤ 300) {x : Encoded} {after : List ℕ}
+module _ (words values lent : List ℕ) (size : ℕ) (l : size ≤ 300) {x : Result ByteCount EncodeRefusal} {after : List ℕ}
     (e : (x ≡ encoded_of (table_of words) (values_in values) (length lent) (length (first_of size))) × (after ≡ buffer_after (table_of words) (values_in values) lent (first_of size))) where
   is : first_of size ≡ buffer_of size
   is = first-same size 300 0xa5 l
@@ -70,7 +70,7 @@ module _ (words values lent : List ℕ) (size : ℕ) (l : size ≤ 300) {x : Enc
   pub sized : (rest : List ℕ) → outcome_text x ++ buffer_text (take (size - 0) (after ++ rest)) ≡ encode_text words values lent (buffer_of size)
   unfolding encode_text
   sized rest =
-      ap₂ (λ (a : Encoded) (b : List ℕ). outcome_text a ++ buffer_text b) e.0 (take_at after rest (size - 0) (omega (arith, after-length)) ∙ e.1)
+      ap₂ (λ (a : Result ByteCount EncodeRefusal) (b : List ℕ). outcome_text a ++ buffer_text b) e.0 (take_at after rest (size - 0) (omega (arith, after-length)) ∙ e.1)
       ∙ ap
       (λ (b : List ℕ). outcome_text (encoded_of (table_of words) (values_in values) (length lent) (length b)) ++ buffer_text (buffer_after (table_of words) (values_in values) lent b))
       is

@@ -1,13 +1,14 @@
 -- How long an answer is. Assumes nothing.
+use Rattle.std.specs.Prelude.{Result, Ok, Err, Option, Some, None}
 use mathlib.Core.Path.{◌≡◌, refl}
 use mathlib.Core.Bool.{Bool, true, false, ◌&&◌}
 use mathlib.Core.List.{List, [], ◌∷◌}
-use Rattle.std.specs.Prelude.{Option, Some, None}
 use Prim.Native.Nat.{ℕ, ◌+◌, ◌*◌, ◌≤◌}
 use native.Mathlib.Omega.{arith}
 use borrow.Author.Tests.{leb-true}
 use lib.Dec.{eqb, leb}
 use lib.ListN.{length, take, drop, length-append, length-take, length-replicate}
+use Rattle.bits.specs.declared.ByteCount.{ByteCount}
 use Rattle.bits.specs.Bits.{pick}
 use Rattle.hexadecimal.specs.Digits.{digits_of}
 use Rattle.hexadecimal.proofs.Inverse.{length_digits}
@@ -23,8 +24,6 @@ use Rattle.messages.specs.declared.Message.{Message}
 use Rattle.weighing.specs.Refusals.{number_of, carried_of}
 use Rattle.weighing.specs.declared.EncodeRefusal.{EncodeRefusal}
 use Rattle.offers.specs.Records.{values_in}
-use Rattle.writing.specs.declared.Encoded.{Encoded}
-use Rattle.writing.specs.declared.Encoded.TheVariants.{Ended, Refused}
 use Rattle.writing.specs.Encode.{encoded_of, buffer_after}
 use Rattle.frame_lines.specs.Lines.{pgn_text, malformed_line, unknown_line}
 use Rattle.compose.specs.Records.{Lists, lists, unlisted, lists_of}
@@ -45,15 +44,15 @@ either false a b h k = k
 refusal-size : (e : EncodeRefusal) → length (refusal_text e) ≤ 85
 refusal-size e = refused-size (number_of e) (carried_of e) (few e)
 
-made-size : (pgn : ℕ) (payload : List ℕ) (x : Encoded) → length payload ≡ 223 → length (made_text pgn payload x) ≤ 452
-made-size pgn payload (Ended used) l =
+made-size : (pgn : ℕ) (payload : List ℕ) (x : Result ByteCount EncodeRefusal) → length payload ≡ 223 → length (made_text pgn payload x) ≤ 452
+made-size pgn payload (Ok used) l =
     omega
     (arith, length-append (pgn_text pgn) (digits_of (take used.0 payload)), fixed-size 16 6 pgn, length_digits (take used.0 payload), length-take used.0 payload)
-made-size pgn payload (Refused e) l = omega (arith, refusal-size e)
+made-size pgn payload (Err e) l = omega (arith, refusal-size e)
 
-outcome-size : (x : Encoded) → length (outcome_text x) ≤ 85
-outcome-size (Ended used) = omega (arith, spaced-size used.0)
-outcome-size (Refused e) = refusal-size e
+outcome-size : (x : Result ByteCount EncodeRefusal) → length (outcome_text x) ≤ 85
+outcome-size (Ok used) = omega (arith, spaced-size used.0)
+outcome-size (Err e) = refusal-size e
 
 bytes-size : (s : List ℕ) → length (bytes_text s) ≤ 1 + 2 * length s
 bytes-size [] = omega arith

@@ -1,5 +1,6 @@
 -- What a line is answered: docs/PROGRAMS.md, "Values in, frames out", and src/main.rt.
-use Rattle.std.specs.Prelude.{ℕ, Option, Some, None, List, [], ◌∷◌, ◌++◌, Bool, ◌&&◌, eqb, leb, length, take, drop, get_or, replicate}
+use Rattle.std.specs.Prelude.{ℕ, Option, Some, None, List, [], ◌∷◌, ◌++◌, Bool, ◌&&◌, eqb, leb, length, take, drop, get_or, replicate, Result, Ok, Err}
+use Rattle.bits.specs.declared.ByteCount.{ByteCount}
 use Rattle.bits.specs.Bits.{pick}
 use Rattle.hexadecimal.specs.Digits.{digits_of}
 use Rattle.text.specs.Digits.{spaced, bytes_text}
@@ -17,8 +18,6 @@ use Rattle.weighing.specs.Refusals.{number_of, carried_of}
 use Rattle.weighing.specs.declared.EncodeRefusal.{EncodeRefusal}
 use Rattle.offers.specs.Records.{values_in}
 use Rattle.writing.specs.Encode.{encoded_of, buffer_after}
-use Rattle.writing.specs.declared.Encoded.{Encoded}
-use Rattle.writing.specs.declared.Encoded.TheVariants.{Ended, Refused}
 use Rattle.frame_lines.specs.Lines.{pgn_text, malformed_line, unknown_line}
 use Rattle.compose.specs.Records.{Lists, lists, unlisted, lists_of}
 
@@ -33,14 +32,14 @@ abbrev pub payload_text : ℕ → List ℕ → ℕ → List ℕ
 payload_text pgn payload used = pgn_text pgn ++ digits_of (take used payload)
 
 -- .. or the refusal
-abbrev pub made_text : ℕ → List ℕ → Encoded → List ℕ
-made_text pgn payload (Ended used) = payload_text pgn payload used.0
-made_text pgn payload (Refused e) = refusal_text e
+abbrev pub made_text : ℕ → List ℕ → Result ByteCount EncodeRefusal → List ℕ
+made_text pgn payload (Ok used) = payload_text pgn payload used.0
+made_text pgn payload (Err e) = refusal_text e
 
 -- "E USED"
-abbrev pub outcome_text : Encoded → List ℕ
-outcome_text (Ended used) = 69 ∷ spaced used.0
-outcome_text (Refused e) = refusal_text e
+abbrev pub outcome_text : Result ByteCount EncodeRefusal → List ℕ
+outcome_text (Ok used) = 69 ∷ spaced used.0
+outcome_text (Err e) = refusal_text e
 
 -- .. and on a line of its own "D BYTES"
 abbrev pub buffer_text : List ℕ → List ℕ

@@ -3,10 +3,10 @@ ghost use Rattle.text.specs.Sheet.{Puts};
 ghost use Rattle.frame_lines.specs.Lines.{malformed_line};
 ghost use Rattle.compose.specs.Answers.{refusal_text, payload_text, made_text, outcome_text, buffer_text};
 
+use bits::ByteCount;
 use columns::part;
 use text::{put, put_bytes, put_fixed_hex, put_number, put_pairs, put_refused, put_text};
 use weighing::EncodeRefusal;
-use writing::Encoded;
 
 // How many digits a PGN has.
 const PGN_DIGITS: usize = 6;
@@ -37,26 +37,30 @@ pub(crate) fn put_made(
     at: usize,
     pgn: u32,
     payload: &[u8],
-    encoded: Encoded,
+    encoded: Result<ByteCount, EncodeRefusal>,
 ) -> usize
     ensures { Puts out.old at (made_text pgn payload.now encoded) out.new result }
 {
     match encoded {
-        Encoded::Ended(used) => put_payload(out, at, pgn, payload, used.0),
-        Encoded::Refused(e) => put_refusal(out, at, e),
+        Ok(used) => put_payload(out, at, pgn, payload, used.0),
+        Err(e) => put_refusal(out, at, e),
     }
 }
 
 // The bytes used, or the refusal.
-pub(crate) fn put_outcome(out: &mut [u8], at: usize, encoded: Encoded) -> usize
+pub(crate) fn put_outcome(
+    out: &mut [u8],
+    at: usize,
+    encoded: Result<ByteCount, EncodeRefusal>,
+) -> usize
     ensures { Puts out.old at (outcome_text encoded) out.new result }
 {
     match encoded {
-        Encoded::Ended(used) => {
+        Ok(used) => {
             let a = put(out, at, b'E');
             put_number(out, a, used.0)
         }
-        Encoded::Refused(e) => put_refusal(out, at, e),
+        Err(e) => put_refusal(out, at, e),
     }
 }
 

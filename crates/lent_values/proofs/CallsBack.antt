@@ -1,6 +1,7 @@
 -- Read-back for the calls, by their contracts as the source states them, `Encodes` of `OneAnswer` here and `Decode` of `OneAnswer` of `lent_readings`: what `encode`
 -- accepted of values that a machine has, and of a lent text in bytes, is read back from the buffer at exit, given room; and `decode` puts those readings into its
 -- run. Assumes nothing.
+use Rattle.std.specs.Prelude.{Ok}
 use mathlib.Core.Path.{◌≡◌, sym, ap, ap₂, ◌∙◌}
 use mathlib.Core.Bool.{Bool, true, false}
 use mathlib.Core.List.{List, [], ◌∷◌}
@@ -29,7 +30,6 @@ use Rattle.lent_readings.proofs.OneAnswer.{Decode}
 use Rattle.lent_readings.specs.contracts.decode as decode
 use Rattle.walking.proofs.Visits.{All}
 use Rattle.offers.specs.declared.Offer.TheVariants.{Nothing, Value}
-use Rattle.writing.specs.declared.Encoded.TheVariants as encoded
 use Rattle.writing.specs.Encode.{buffer_after}
 use Rattle.writing.specs.ReadBack.{spans_in, Offers, AllBytes, AllHeld, ReadsBack}
 use Rattle.writing.proofs.ReadsBack.{read_back}
@@ -38,7 +38,7 @@ use Rattle.lent_values.specs.contracts.encode as encode
 use Rattle.lent_values.proofs.OneAnswer.{Encodes}
 
 -- an accepted `encode`: of words, values, lent text and buffer
-pub call-reads-back : (κs : Lfts 4) (a : Args encode.signature κs) (x : Res encode.signature κs) (s : AtExit encode.ended κs) → Encodes κs a x s → (n : ℕ) → x ≡ encoded.Ended (bytes n)
+pub call-reads-back : (κs : Lfts 4) (a : Args encode.signature κs) (x : Res encode.signature κs) (s : AtExit encode.ended κs) → Encodes κs a x s → (n : ℕ) → x ≡ Ok (bytes n)
     → AllHeld (values_of a.1.0.now) → AllBytes a.1.1.0.now
     → ReadsBack (table_of a.0.now) (values_of a.1.0.now) a.1.1.0.now a.1.1.1.0.now n
     × (s.1.1.1.0.now ≡ buffer_after (table_of a.0.now) (values_of a.1.0.now) a.1.1.0.now a.1.1.1.0.now)

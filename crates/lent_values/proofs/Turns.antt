@@ -1,5 +1,6 @@
 -- The loop of `encode`, with no memory in it: where a turn may begin (`Course`), what a turn makes of it (`more`, `again`), that it comes nearer, and what
 -- holds where it stops (`ends`). Assumes nothing.
+use Rattle.std.specs.Prelude.{Result, Ok, Err}
 use mathlib.Core.Path.{◌≡◌, refl, sym, ap, ◌∙◌, subst}
 use mathlib.Core.Bool.{Bool, true, false}
 use mathlib.Core.List.{List}
@@ -9,17 +10,15 @@ use lib.Dec.{ltb}
 use lib.ListN.{length, get_or, replicate}
 use Rattle.std.proofs.lemmas.List.{get_or_default}
 use borrow.Author.Tests.{lt-ltb, le-ltb, ltb-true}
+use Rattle.weighing.specs.declared.EncodeRefusal.{EncodeRefusal}
+use Rattle.bits.specs.declared.ByteCount.{ByteCount}
 use Rattle.bits.specs.Bits.{pick}
 use Rattle.descriptor.specs.declared.PgnValue.{PgnValue}
 use Rattle.descriptor.specs.declared.PgnValue.TheVariants.{U8}
 use Rattle.tables.specs.Table.{Table}
 use Rattle.offers.specs.declared.Offer.{Offer}
 use Rattle.offers.specs.declared.Offer.TheVariants.{Nothing, Value}
-use Rattle.writing.specs.declared.Begun.{Begun}
-use Rattle.writing.specs.declared.Begun.TheVariants as begun
 use Rattle.writing.specs.declared.Draft.{Draft}
-use Rattle.writing.specs.declared.Encoded.{Encoded}
-use Rattle.writing.specs.declared.Encoded.TheVariants as encoded
 use Rattle.writing.specs.declared.Stroke.{Stroke}
 use Rattle.writing.specs.declared.Stroke.TheVariants.{Wrote, Skipped, Moved, Ended, Refused}
 use Rattle.writing.specs.declared.Stroked.{Stroked}
@@ -53,7 +52,7 @@ module _ (t : Table) (vs : List PgnValue) (lent buffer : List ℕ) where
   -- nothing was done; or the walk goes on from a draft
   pub data Course : Step → PgnValue → List ℕ → Type 0 where
     new : (v : PgnValue) → Course fresh_step v buffer
-    on : (ready : begun_of t size ≡ begun.Ready) (d : Draft) (v : PgnValue) (cur : List ℕ) → Going t (values_of vs) lent size d cur → Stands d v → Course (going_on_lem count d) v cur
+    on : (ready : begun_of t size ≡ Ok tt) (d : Draft) (v : PgnValue) (cur : List ℕ) → Going t (values_of vs) lent size d cur → Stands d v → Course (going_on_lem count d) v cur
 
   -- the turns that are left
   abbrev pub left : Step → ℕ
@@ -61,31 +60,31 @@ module _ (t : Table) (vs : List PgnValue) (lent buffer : List ℕ) where
 
   -- what a turn comes to, from a step with n turns left
   pub record After (n : ℕ) (c : Step) (cur : List ℕ) : Type 0 where
-    pub goes : c.over ≡ false → (begun_of t size ≡ begun.Ready) × ((c ≡ going_on_lem count c.draft) × (Going t (values_of vs) lent size c.draft cur × (left c < n)))
+    pub goes : c.over ≡ false → (begun_of t size ≡ Ok tt) × ((c ≡ going_on_lem count c.draft) × (Going t (values_of vs) lent size c.draft cur × (left c < n)))
     pub stops : c.over ≡ true → (c.wants ≡ false) × ((c.encoded ≡ encoded_of t (values_of vs) (length lent) size) × (cur ≡ buffer_after t (values_of vs) lent buffer))
 
-  after_on : (ready : begun_of t size ≡ begun.Ready) (n : ℕ) (d : Draft) (cur : List ℕ) → Going t (values_of vs) lent size d cur → heft t (values_of vs) lent size d < n → After n (going_on_lem count d) cur
+  after_on : (ready : begun_of t size ≡ Ok tt) (n : ℕ) (d : Draft) (cur : List ℕ) → Going t (values_of vs) lent size d cur → heft t (values_of vs) lent size d < n → After n (going_on_lem count d) cur
   after_on ready n d cur g l = record { goes = λ _. (ready, (refl, (g, l))); stops = λ h. let y : ◌≡◌ {A = ℕ} 0 1 = cc in absurd (omega arith) }
 
-  after-over : (x : Begun) → begun_of t size ≡ x → (n : ℕ) (d : Draft) (a : Encoded) (cur : List ℕ) → a ≡ encoded_in x t (values_of vs) (length lent) size → cur ≡ buffer_in x t (values_of vs) lent buffer → After n (over_with_lem d a) cur
+  after-over : (x : Result (Unit {0}) EncodeRefusal) → begun_of t size ≡ x → (n : ℕ) (d : Draft) (a : Result ByteCount EncodeRefusal) (cur : List ℕ) → a ≡ encoded_in x t (values_of vs) (length lent) size → cur ≡ buffer_in x t (values_of vs) lent buffer → After n (over_with_lem d a) cur
   after-over x q n d a cur e f = record {
     goes = λ h. let y : ◌≡◌ {A = ℕ} 0 1 = cc in absurd (omega arith);
-    stops = λ _. (refl, (e ∙ ap (λ (y : Begun). encoded_in y t (values_of vs) (length lent) size) (sym q), f ∙ ap (λ (y : Begun). buffer_in y t (values_of vs) lent buffer) (sym q)));
+    stops = λ _. (refl, (e ∙ ap (λ (y : Result (Unit {0}) EncodeRefusal). encoded_in y t (values_of vs) (length lent) size) (sym q), f ∙ ap (λ (y : Result (Unit {0}) EncodeRefusal). buffer_in y t (values_of vs) lent buffer) (sym q)));
   }
 
   -- the first turn
-  first-after : (x : Begun) → begun_of t size ≡ x → After (suc (heft t (values_of vs) lent size start_of)) (first_by x count) (ones_if x buffer)
-  first-after begun.Ready q = after_on q _ start_of (replicate size 0xff) (going t (values_of vs) lent size) (omega arith)
-  first-after (begun.Refused e) q = after-over (begun.Refused e) q _ start_of (encoded.Refused e) buffer refl refl
+  first-after : (x : Result (Unit {0}) EncodeRefusal) → begun_of t size ≡ x → After (suc (heft t (values_of vs) lent size start_of)) (first_by x count) (ones_if x buffer)
+  first-after (Ok u) q = after_on q _ start_of (replicate size 0xff) (going t (values_of vs) lent size) (omega arith)
+  first-after (Err e) q = after-over (Err e) q _ start_of (Err e) buffer refl refl
 
-  module _ (ready : begun_of t size ≡ begun.Ready) (d : Draft) where
+  module _ (ready : begun_of t size ≡ Ok tt) (d : Draft) where
     -- a later one, by its stroke
     stroke-after : (x : Stroked) (cur : List ℕ) → Turned t (values_of vs) lent size d x cur → (k : Stroke) → x.stroke ≡ k → After (heft t (values_of vs) lent size d) (next_by k x.draft count) cur
     stroke-after x cur w (Wrote v) e = let h = w.on (ap goes_on_lem e) in after_on ready _ x.draft cur h.0 h.1
     stroke-after x cur w (Skipped v) e = let h = w.on (ap goes_on_lem e) in after_on ready _ x.draft cur h.0 h.1
     stroke-after x cur w Moved e = let h = w.on (ap goes_on_lem e) in after_on ready _ x.draft cur h.0 h.1
-    stroke-after x cur w Ended e = let h = w.ends e in after-over begun.Ready ready _ x.draft _ cur (sym h.0) h.1
-    stroke-after x cur w (Refused f) e = let h = w.stops f e in after-over begun.Ready ready _ x.draft _ cur (sym h.0) h.1
+    stroke-after x cur w Ended e = let h = w.ends e in after-over (Ok tt) ready _ x.draft _ cur (sym h.0) h.1
+    stroke-after x cur w (Refused f) e = let h = w.stops f e in after-over (Ok tt) ready _ x.draft _ cur (sym h.0) h.1
 
     -- what is offered is the next value
     is-offered : (v : PgnValue) → Stands d v → offer_by (ltb d.pen.used count) v ≡ offered_at vs d.pen.used

@@ -1,10 +1,11 @@
 -- What each call answers and leaves, as its contract says it: one equation for the answer, and one for the lent buffer at exit. They put the definitions of `writing`, Run
 -- and Turn together over the words and bytes themselves, and rule nothing of their own: only the code needs them.
-use Rattle.std.specs.Prelude.{◌≡◌, ℕ, List, ltb, length}
+use Rattle.std.specs.Prelude.{◌≡◌, ℕ, List, ltb, length, Result}
+use Rattle.weighing.specs.declared.EncodeRefusal.{EncodeRefusal}
+use Rattle.bits.specs.declared.ByteCount.{ByteCount}
 use Rattle.descriptor.specs.declared.PgnValue.{PgnValue}
 use Rattle.tables.specs.Table.{table_of}
 use Rattle.writing.specs.declared.Draft.{Draft}
-use Rattle.writing.specs.declared.Encoded.{Encoded}
 use Rattle.writing.specs.Encode.{begun_of, encoded_of, buffer_after}
 use Rattle.writing.specs.Strokes.{ones_if, stroked_of, left_of}
 use Rattle.lent_values.specs.declared.Step.{Step}
@@ -31,7 +32,7 @@ Steps r after words lent buffer c v count =
     (r ≡ step_of t (length lent) (length buffer) c v count) × (after ≡ left_in t lent buffer c v count)
 
 -- `encode`
-abbrev pub Encodes : Encoded → List ℕ → List ℕ → List PgnValue → List ℕ → List ℕ → Type 0
+abbrev pub Encodes : Result ByteCount EncodeRefusal → List ℕ → List ℕ → List PgnValue → List ℕ → List ℕ → Type 0
 Encodes r after words values lent buffer =
     let t = table_of words in
     let vs = values_of values in

@@ -1,17 +1,15 @@
 -- One turn of the walk of document 01, "Writing a payload", over values that are handed in one by one: what `steps::step` answers, and what it leaves
 -- in the buffer. The contract of `encode` does not cite it.
-use Rattle.std.specs.Prelude.{ℕ, Bool, true, false, List, ltb, length}
+use Rattle.std.specs.Prelude.{ℕ, Bool, true, false, List, ltb, length, Result, Ok, Err}
+use Rattle.weighing.specs.declared.EncodeRefusal.{EncodeRefusal}
+use Rattle.bits.specs.declared.ByteCount.{ByteCount}
 use Rattle.bits.specs.Bits.{pick}
 use Rattle.bits.specs.Calls.{bytes}
 use Rattle.descriptor.specs.declared.PgnValue.{PgnValue}
 use Rattle.tables.specs.Table.{Table}
 use Rattle.offers.specs.declared.Offer.{Offer}
 use Rattle.offers.specs.declared.Offer.TheVariants.{Nothing, Value}
-use Rattle.writing.specs.declared.Begun.{Begun}
-use Rattle.writing.specs.declared.Begun.TheVariants as begun
 use Rattle.writing.specs.declared.Draft.{Draft}
-use Rattle.writing.specs.declared.Encoded.{Encoded}
-use Rattle.writing.specs.declared.Encoded.TheVariants as encoded
 use Rattle.writing.specs.declared.Stroke.{Stroke}
 use Rattle.writing.specs.declared.Stroke.TheVariants.{Wrote, Skipped, Moved, Ended, Refused}
 use Rattle.writing.specs.declared.Stroked.{Stroked}
@@ -25,26 +23,26 @@ offer_by b v = pick b (Value v) Nothing
 
 -- before the first turn
 abbrev pub fresh_step : Step
-fresh_step = record { wants = false; over = false; fresh = true; place = 0; draft = start_of; encoded = encoded.Ended (bytes 0) }
+fresh_step = record { wants = false; over = false; fresh = true; place = 0; draft = start_of; encoded = Ok (bytes 0) }
 
 -- of so many values the next is wanted, if there is one
 abbrev pub going_on_lem : ℕ → Draft → Step
-going_on_lem count d = record { wants = ltb d.pen.used count; over = false; fresh = false; place = d.pen.used; draft = d; encoded = encoded.Ended (bytes 0) }
+going_on_lem count d = record { wants = ltb d.pen.used count; over = false; fresh = false; place = d.pen.used; draft = d; encoded = Ok (bytes 0) }
 
-abbrev pub over_with_lem : Draft → Encoded → Step
+abbrev pub over_with_lem : Draft → Result ByteCount EncodeRefusal → Step
 over_with_lem d e = record { wants = false; over = true; fresh = false; place = 0; draft = d; encoded = e }
 
 -- "7, 8, then the walk"
-abbrev pub first_by : Begun → ℕ → Step
-first_by begun.Ready count = going_on_lem count start_of
-first_by (begun.Refused e) count = over_with_lem start_of (encoded.Refused e)
+abbrev pub first_by : Result (Unit {0}) EncodeRefusal → ℕ → Step
+first_by (Ok u) count = going_on_lem count start_of
+first_by (Err e) count = over_with_lem start_of (Err e)
 
 abbrev pub next_by : Stroke → Draft → ℕ → Step
 next_by (Wrote v) d count = going_on_lem count d
 next_by (Skipped v) d count = going_on_lem count d
 next_by Moved d count = going_on_lem count d
-next_by Ended d count = over_with_lem d (encoded.Ended (bytes (bytes_used_lem d.pen)))
-next_by (Refused e) d count = over_with_lem d (encoded.Refused e)
+next_by Ended d count = over_with_lem d (Ok (bytes (bytes_used_lem d.pen)))
+next_by (Refused e) d count = over_with_lem d (Err e)
 
 abbrev pub next_of : Stroked → ℕ → Step
 next_of x count = next_by x.stroke x.draft count

@@ -9,8 +9,10 @@
 
 ghost use Rattle.lent_values.specs.Clauses.{Encodes};
 
+use bits::ByteCount;
 use descriptor::PgnValue;
-use writing::{Draft, Encoded};
+use weighing::EncodeRefusal;
+use writing::Draft;
 
 mod steps;
 
@@ -23,12 +25,17 @@ pub(crate) struct Step {
     fresh: bool,
     place: usize,
     draft: Draft,
-    encoded: Encoded,
+    encoded: Result<ByteCount, EncodeRefusal>,
 }
 
 // Values by a table into a buffer: the bytes used, or the refusal. The texts of the values stand in the
 // lent text.
-pub fn encode(words: &[u64], values: &[PgnValue], lent: &[u8], buffer: &mut [u8]) -> Encoded
+pub fn encode(
+    words: &[u64],
+    values: &[PgnValue],
+    lent: &[u8],
+    buffer: &mut [u8],
+) -> Result<ByteCount, EncodeRefusal>
     ensures { Encodes result buffer.new words.now values.now lent.now buffer.old }
 {
     let mut c = steps::fresh();

@@ -7,7 +7,8 @@ use crate::Step;
 use bits::ByteCount;
 use descriptor::PgnValue;
 use offers::Offer;
-use writing::{Begun, Draft, Encoded, Stroke};
+use weighing::EncodeRefusal;
+use writing::{Draft, Stroke};
 
 // Before the first turn.
 pub(crate) fn fresh() -> Step
@@ -19,7 +20,7 @@ pub(crate) fn fresh() -> Step
         fresh: true,
         place: 0,
         draft: writing::start(),
-        encoded: Encoded::Ended(ByteCount(0)),
+        encoded: Ok(ByteCount(0)),
     }
 }
 
@@ -35,12 +36,12 @@ fn going_on(draft: Draft, count: usize) -> Step
         fresh: false,
         place: used,
         draft,
-        encoded: Encoded::Ended(ByteCount(0)),
+        encoded: Ok(ByteCount(0)),
     }
 }
 
 // The walk is over, with this answer.
-fn over_with(draft: Draft, encoded: Encoded) -> Step
+fn over_with(draft: Draft, encoded: Result<ByteCount, EncodeRefusal>) -> Step
     ensures { result ≡ over_with_lem draft encoded }
 {
     Step {
@@ -60,8 +61,8 @@ fn first(words: &[u64], buffer: &mut [u8], count: usize) -> Step
     let begun = writing::begin(words, buffer);
     let draft = writing::start();
     match begun {
-        Begun::Ready => going_on(draft, count),
-        Begun::Refused(refusal) => over_with(draft, Encoded::Refused(refusal)),
+        Ok(()) => going_on(draft, count),
+        Err(refusal) => over_with(draft, Err(refusal)),
     }
 }
 
@@ -85,8 +86,8 @@ fn after(stroke: Stroke, draft: Draft, count: usize) -> Step
         Stroke::Wrote(_) => going_on(draft, count),
         Stroke::Skipped(_) => going_on(draft, count),
         Stroke::Moved => going_on(draft, count),
-        Stroke::Ended => over_with(draft, Encoded::Ended(writing::bytes_used(pen.at))),
-        Stroke::Refused(refusal) => over_with(draft, Encoded::Refused(refusal)),
+        Stroke::Ended => over_with(draft, Ok(writing::bytes_used(pen.at))),
+        Stroke::Refused(refusal) => over_with(draft, Err(refusal)),
     }
 }
 

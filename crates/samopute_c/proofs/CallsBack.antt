@@ -1,12 +1,14 @@
 -- Read-back at the boundary, by the contracts as the source states them, `Post`: what `samopute_encode` accepted of value records and a lent text that are bytes,
 -- `samopute_decode` reads by the same table, from the bytes used of the payload, into a buffer with room for 1,785 readings. Assumes nothing.
+use Rattle.std.specs.Prelude.{Result, Ok, Err}
 use mathlib.Core.Path.{◌≡◌, refl, sym, ap, ap₂, ◌∙◌, subst}
 use mathlib.Core.Bool.{true, false≢true}
 use mathlib.Core.List.{List}
 use Prim.Native.Nat.{ℕ, ◌+◌, ◌*◌, ◌≤◌}
 use native.Mathlib.Omega.{arith}
 use lib.ListN.{length, get_or, take}
-use Rattle.std.specs.Prelude.{Result}
+use Rattle.weighing.specs.declared.EncodeRefusal.{EncodeRefusal}
+use Rattle.bits.specs.declared.ByteCount.{ByteCount}
 use Rattle.bits.specs.Calls.{bytes}
 use Rattle.tables.specs.Table.{Table, table_of}
 use Rattle.tables.specs.Check.{payload_max}
@@ -20,8 +22,6 @@ use Rattle.reading.proofs.Answered.{answered}
 use Rattle.records.specs.Layout.{prefix_bytes, record_bytes, room_in_lem, stored_in}
 use Rattle.offers.specs.Records.{values_in}
 use Rattle.weighing.specs.Refusals.{number_of, given_by_encode}
-use Rattle.writing.specs.declared.Encoded.{Encoded}
-use Rattle.writing.specs.declared.Encoded.TheVariants.{Ended, Refused}
 use Rattle.writing.specs.ReadBack.{spans_in, AllBytes, ReadBack, ReadsBack}
 use Rattle.writing.proofs.ReadsBack.{records-read-back}
 use Rattle.writing.proofs.CallsBack.{Says}
@@ -33,9 +33,9 @@ use Rattle.samopute_c.proofs.encoding.samopute_encode.Reads as encode
 
 -- ## An encode with status 0
 
-accepted-as : (t : Table) (values : List ℕ) (text payload : ℕ) (e : Encoded) → encoded_by t values text payload ≡ e → encoded_status e ≡ 0 → e ≡ Ended (bytes (get_or (encoded_cells e) 0 0))
-accepted-as t values text payload (Ended used) h z = refl
-accepted-as t values text payload (Refused f) h z =
+accepted-as : (t : Table) (values : List ℕ) (text payload : ℕ) (e : Result ByteCount EncodeRefusal) → encoded_by t values text payload ≡ e → encoded_status e ≡ 0 → e ≡ Ok (bytes (get_or (encoded_cells e) 0 0))
+accepted-as t values text payload (Ok used) h z = refl
+accepted-as t values text payload (Err f) h z =
     let g : given_by_encode (number_of f) ≡ true = encode-gives t (values_in values) text payload f h in
     absurd (false≢true (ap given_by_encode (sym z) ∙ g))
 
@@ -49,7 +49,7 @@ call-reads-back κs a x s p z values texts =
     let e = encoded_by t a.1.0.now lent size in
     let used : get_or (encoded_cells e) 0 0 ≡ get_or s.1.1.1.1.0.now 0 0 = ap (λ (l : List ℕ). get_or l 0 0) (sym p.1.1) in
     records-read-back t a.1.0.now a.1.1.0.now a.1.1.1.0.now (get_or s.1.1.1.1.0.now 0 0) values texts
-    (accepted-as t a.1.0.now lent size e refl (sym p.0 ∙ z) ∙ ap (λ (n : ℕ). Ended (bytes n)) used)
+    (accepted-as t a.1.0.now lent size e refl (sym p.0 ∙ z) ∙ ap (λ (n : ℕ). Ok (bytes n)) used)
 
 -- ## Then a decode
 

@@ -4,20 +4,26 @@ ghost use Rattle.messages.specs.Messages.{words_of};
 ghost use Rattle.samopute_c.specs.Encodes.{encoded_status, encoded_cells};
 ghost use Rattle.samopute_c.specs.Clauses.{Encodes, EncodesPgn};
 
+<<<<<<< HEAD
 use messages::Message;
 use writing::Encoded;
+=======
+use bits::ByteCount;
+use messages::{Known, Message};
+use weighing::EncodeRefusal;
+>>>>>>> d90316e (writing, lent_values: `begin` and `encode` answer Results)
 
 // Lays out an encode's answer: its status is 0, or the refusal's number.
-fn tell_encoded(answer: &mut [u64; 4], encoded: Encoded) -> u32
+fn tell_encoded(answer: &mut [u64; 4], encoded: Result<ByteCount, EncodeRefusal>) -> u32
     ensures { (result ≡ encoded_status encoded) × (answer.new ≡ encoded_cells encoded) }
 {
     match encoded {
-        Encoded::Ended(used) => {
+        Ok(used) => {
             let count = used.0;
             *answer = [count as u64, 0, 0, 0];
             0
         }
-        Encoded::Refused(refusal) => {
+        Err(refusal) => {
             let first = refusal.carried(0);
             let second = refusal.carried(1);
             let third = refusal.carried(2);

@@ -1,5 +1,6 @@
 -- Read-back for the calls, by their contracts as the source states them, `Post`: what `encode` accepted, `for_each_field` reads to the end where encode
 -- ended, with as many readings as were written. Assumes nothing.
+use Rattle.std.specs.Prelude.{Ok}
 use mathlib.Core.Path.{◌≡◌, sym, ap, ap₂, ◌∙◌}
 use mathlib.Core.List.{List}
 use Prim.Native.Nat.{ℕ, ◌≤◌}
@@ -13,7 +14,6 @@ use Rattle.reading.specs.Decode.{decoded_of_lem}
 use Rattle.reading.specs.Demand3.{unskipped_in, room_enough_lem}
 use Rattle.reading.proofs.for_each_field.Reads as for-each-field
 use Rattle.offers.specs.Records.{values_in}
-use Rattle.writing.specs.declared.Encoded.TheVariants as encoded
 use Rattle.writing.specs.Encode.{buffer_after}
 use Rattle.writing.specs.ReadBack.{spans_in, AllBytes, ReadsBack}
 use Rattle.writing.proofs.ReadsBack.{records-read-back}
@@ -24,7 +24,7 @@ abbrev pub Says : {K : Type 0} {A X S : K → Type 0} → ((κs : K) → A κs �
 Says {K} {A} {X} {S} P Q = (κs : K) (a : A κs) (x : X κs) (s : S κs) → P κs a x s → Q κs a x s
 
 -- an accepted `encode`: of words, value records, lent text and buffer
-pub call-reads-back : Says encode.Post (λ κs a x s. (n : ℕ) → x ≡ encoded.Ended (bytes n) → AllBytes a.1.0.now → AllBytes a.1.1.0.now
+pub call-reads-back : Says encode.Post (λ κs a x s. (n : ℕ) → x ≡ Ok (bytes n) → AllBytes a.1.0.now → AllBytes a.1.1.0.now
     → ReadsBack (table_of a.0.now) (values_in a.1.0.now) a.1.1.0.now a.1.1.1.0.now n
     × (s.1.1.1.0.now ≡ buffer_after (table_of a.0.now) (values_in a.1.0.now) a.1.1.0.now a.1.1.1.0.now))
 call-reads-back κs a x s p n e values texts =

@@ -1,5 +1,6 @@
 -- "No refusal is given otherwise", of a whole encode: its number is 2, 3, 5, 7, 8, 10, 11, 12 or 13. So 1 and 6, which a bit call has, are given by none.
 -- Assumes nothing.
+use Rattle.std.specs.Prelude.{Err, Ok}
 use mathlib.Core.Path.{◌≡◌, refl, ap, ◌∙◌, subst}
 use mathlib.Core.Bool.{Bool, true, false}
 use mathlib.Core.List.{List}
@@ -30,8 +31,6 @@ use Rattle.offers.specs.Values.{Values}
 use Rattle.offers.specs.declared.Offer.{Offer}
 use Rattle.offers.specs.declared.Offer.TheVariants.{Nothing, NoKind, Value}
 use Rattle.writing.specs.declared.Pen.{Pen}
-use Rattle.writing.specs.declared.Begun.TheVariants as begun
-use Rattle.writing.specs.declared.Encoded.TheVariants as encoded
 use Rattle.writing.specs.Encode.{Mark, offered_of, content_of_lem, settled, one_of, count_of, too_many, beginning, writes_of, by_check, bytes_used_lem, end_of, encoded_in, encoded_of}
 
 -- a refusal that an encode gives
@@ -78,21 +77,21 @@ module _ (t : Table) (ok : check_of t ≡ checked.Accepted) (size : ℕ) (small 
 -- ## All of it
 
 module _ (t : Table) (vs : Values) (lent size : ℕ) (f : EncodeRefusal) where
-  by_count : (b : Bool) (s : Pen) → pick b (encoded.Refused (ValueCount t.count)) (encoded.Ended (bytes (bytes_used_lem s))) ≡ encoded.Refused f → Gives f
+  by_count : (b : Bool) (s : Pen) → pick b (Err (ValueCount t.count)) (Ok (bytes (bytes_used_lem s))) ≡ Err f → Gives f
   by_count true s e = let k : ValueCount t.count ≡ f = cc in subst Gives k refl
   by_count false s e = let k : ◌≡◌ {A = ℕ} 0 1 = cc in absurd (omega arith)
 
   by-run : check_of t ≡ checked.Accepted → size ≤ payload_max → (w : Run Mark Pen EncodeRefusal) → writes_of t vs.offered lent size ≡ w
-      → end_of t vs.count w ≡ encoded.Refused f → Gives f
+      → end_of t vs.count w ≡ Err f → Gives f
   by-run ok small (ran ms s) q e = by_count (ltb s.used vs.count) s e
   by-run ok small (stopped ms x) q e = let k : x ≡ f = cc in walk-gives t ok size small vs.offered lent ms f (q ∙ ap (stopped ms) k)
 
   by-begun : (b : Bool) → ltb payload_max size ≡ b → (c : Checked) → check_of t ≡ c
-      → encoded_in (pick b (begun.Refused (WrongLength (bytes size))) (by_check c)) t vs lent size ≡ encoded.Refused f → Gives f
+      → encoded_in (pick b (Err (WrongLength (bytes size))) (by_check c)) t vs lent size ≡ Err f → Gives f
   by-begun true l c q e = let k : WrongLength (bytes size) ≡ f = cc in subst Gives k refl
   by-begun false l checked.Accepted q e = by-run q (ltb-false payload_max size l) (writes_of t vs.offered lent size) refl e
   by-begun false l (checked.Refused rule index) q e = let k : TableRefused rule index ≡ f = cc in subst Gives k refl
 
   -- any table, values, lent text and buffer: the refusal of an encode has one of its numbers
-  pub encode-gives : encoded_of t vs lent size ≡ encoded.Refused f → given_by_encode (number_of f) ≡ true
+  pub encode-gives : encoded_of t vs lent size ≡ Err f → given_by_encode (number_of f) ≡ true
   encode-gives h = by-begun (ltb payload_max size) refl (check_of t) refl h

@@ -1,4 +1,5 @@
 -- Turn by turn, a walk comes to what encoding is, and the buffer to its image. Assumes nothing.
+use Rattle.std.specs.Prelude.{Result, Ok, Err}
 use mathlib.Core.Path.{◌≡◌, refl, sym, ap, ◌∙◌, subst}
 use mathlib.Core.Bool.{Bool, true, false}
 use mathlib.Core.List.{List, [], ◌∷◌, ◌++◌, append-nil}
@@ -7,6 +8,7 @@ use native.Mathlib.Omega.{arith}
 use lib.Dec.{ltb}
 use lib.ListN.{length, replicate, length-replicate}
 use borrow.Author.Tests.{ltb-true, ltb-false}
+use Rattle.bits.specs.declared.ByteCount.{ByteCount}
 use Rattle.bits.specs.Calls.{bytes}
 use Rattle.tables.specs.Table.{Table}
 use Rattle.tables.specs.Check.{check_of}
@@ -27,8 +29,6 @@ use Rattle.weighing.specs.declared.Weighed.{Weighed}
 use Rattle.weighing.specs.declared.Weighed.TheVariants as weighed
 use Rattle.writing.specs.declared.Pen.{Pen}
 use Rattle.writing.specs.declared.Draft.{Draft}
-use Rattle.writing.specs.declared.Encoded.{Encoded}
-use Rattle.writing.specs.declared.Encoded.TheVariants as encoded
 use Rattle.writing.specs.declared.Stroke.{Stroke}
 use Rattle.writing.specs.declared.Stroke.TheVariants.{Wrote, Skipped, Moved, Ended, Refused}
 use Rattle.writing.specs.declared.Stroked.{Stroked}
@@ -95,7 +95,7 @@ module _ (t : Table) (vs : Values) (lent : List ℕ) (size : ℕ) where
   abbrev run : Run Mark Pen EncodeRefusal
   run = writes_of t vs.offered (length lent) size
 
-  abbrev pub whole : Encoded
+  abbrev pub whole : Result ByteCount EncodeRefusal
   whole = end_of t vs.count run
 
   abbrev pub all : List ℕ
@@ -127,8 +127,8 @@ module _ (t : Table) (vs : Values) (lent : List ℕ) (size : ℕ) where
   -- what one turn leaves
   pub record Turned (d : Draft) (x : Stroked) (after : List ℕ) : Type 0 where
     pub on : goes_on_lem x.stroke ≡ true → Going x.draft after × (heft x.draft < heft d)
-    pub ends : x.stroke ≡ Ended → (whole ≡ encoded.Ended (bytes (bytes_used_lem x.draft.pen))) × (after ≡ all)
-    pub stops : (f : EncodeRefusal) → x.stroke ≡ Refused f → (whole ≡ encoded.Refused f) × (after ≡ all)
+    pub ends : x.stroke ≡ Ended → (whole ≡ Ok (bytes (bytes_used_lem x.draft.pen))) × (after ≡ all)
+    pub stops : (f : EncodeRefusal) → x.stroke ≡ Refused f → (whole ≡ Err f) × (after ≡ all)
 
   turned_on : (d : Draft) (x : Stroked) (after : List ℕ) → goes_on_lem x.stroke ≡ true → Going x.draft after × (heft x.draft < heft d) → Turned d x after
   turned_on d x after o h = record {
@@ -143,17 +143,17 @@ module _ (t : Table) (vs : Values) (lent : List ℕ) (size : ℕ) where
 
   -- at the end: "left-over values last"
   module _ (listed : Listed vs) (s : Pen) (ms : List Mark) (e : run ≡ ran ms s) where
-    used-up : vs.offered s.used ≡ Nothing → whole ≡ encoded.Ended (bytes (bytes_used_lem s))
+    used-up : vs.offered s.used ≡ Nothing → whole ≡ Ok (bytes (bytes_used_lem s))
     used-up q = ap (end_of t vs.count) e ∙ go (ltb s.used vs.count) refl
       where
-        go : (b : Bool) → ltb s.used vs.count ≡ b → end_of t vs.count (ran ms s) ≡ encoded.Ended (bytes (bytes_used_lem s))
+        go : (b : Bool) → ltb s.used vs.count ≡ b → end_of t vs.count (ran ms s) ≡ Ok (bytes (bytes_used_lem s))
         go true k = absurd (listed.here s.used (ltb-true _ _ k) q)
         go false k = rw k
 
-    left_over : (o : Offer) → vs.offered s.used ≡ o → (o ≡ Nothing → ⊥) → whole ≡ encoded.Refused (ValueCount t.count)
+    left_over : (o : Offer) → vs.offered s.used ≡ o → (o ≡ Nothing → ⊥) → whole ≡ Err (ValueCount t.count)
     left_over o q n = ap (end_of t vs.count) e ∙ go (ltb s.used vs.count) refl
       where
-        go : (b : Bool) → ltb s.used vs.count ≡ b → end_of t vs.count (ran ms s) ≡ encoded.Refused (ValueCount t.count)
+        go : (b : Bool) → ltb s.used vs.count ≡ b → end_of t vs.count (ran ms s) ≡ Err (ValueCount t.count)
         go true k = rw k
         go false k = absurd (n (sym q ∙ listed.past s.used (ltb-false _ _ k)))
 
@@ -172,14 +172,14 @@ module _ (t : Table) (vs : Values) (lent : List ℕ) (size : ℕ) where
       record {
         on = λ k. let y : ◌≡◌ {A = ℕ} 0 1 = cc in absurd (omega arith);
         ends = λ k. let y : ◌≡◌ {A = ℕ} 0 1 = cc in absurd (omega arith);
-        stops = λ f k. (h ∙ ap encoded.Refused (same-refusal _ f k), over d buffer g _ e refl);
+        stops = λ f k. (h ∙ ap Err (same-refusal _ f k), over d buffer g _ e refl);
       }
   end-turned listed d buffer g z same e (Value v) q =
       let h = left_over listed z (g.done ++ []) e (Value v) (ap (λ (s : Pen). vs.offered s.used) (sym same) ∙ q) (λ k. let y : ◌≡◌ {A = ℕ} 0 1 = cc in absurd (omega arith)) in
       record {
         on = λ k. let y : ◌≡◌ {A = ℕ} 0 1 = cc in absurd (omega arith);
         ends = λ k. let y : ◌≡◌ {A = ℕ} 0 1 = cc in absurd (omega arith);
-        stops = λ f k. (h ∙ ap encoded.Refused (same-refusal _ f k), over d buffer g _ e refl);
+        stops = λ f k. (h ∙ ap Err (same-refusal _ f k), over d buffer g _ e refl);
       }
 
   turned_by : Listed vs → (d : Draft) (buffer : List ℕ) (g : Going d buffer) (x : Turn Mark Pen EncodeRefusal) → turn t one count too_many d.spot d.pen ≡ x
@@ -214,7 +214,7 @@ module _ (t : Table) (vs : Values) (lent : List ℕ) (size : ℕ) where
       record {
         on = λ o. let y : ◌≡◌ {A = ℕ} 0 1 = cc in absurd (omega arith);
         ends = λ o. let y : ◌≡◌ {A = ℕ} 0 1 = cc in absurd (omega arith);
-        stops = λ x o. (ap (end_of t vs.count) r ∙ ap encoded.Refused (same-refusal k x o), over d buffer g _ r refl);
+        stops = λ x o. (ap (end_of t vs.count) r ∙ ap Err (same-refusal k x o), over d buffer g _ r refl);
       }
 
   -- one turn with the next value

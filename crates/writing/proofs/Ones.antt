@@ -1,5 +1,6 @@
 -- What no field puts stays ones: "all bits after are ones", "Skipped fields stay ones", and of a refused encode "all 0xFF except the fields wholly written before; the
 -- faulty field leaves no bit". One law for an encode that ended and for one that was refused. Assumes nothing.
+use Rattle.std.specs.Prelude.{Result, Ok, Err}
 use mathlib.Core.Path.{◌≡◌, refl, sym, ap, ◌∙◌, subst}
 use mathlib.Core.Logic.{◌⊎◌, inl, inr, ⊎_elim}
 use mathlib.Core.Bool.{Bool, true, false, ◌&&◌, ◌||◌, false≢true}
@@ -10,6 +11,7 @@ use native.Mathlib.Omega.{arith}
 use lib.Dec.{lit<, leb, ltb}
 use lib.ListN.{length, get_or, replicate, length-replicate}
 use borrow.Author.Tests.{ltb-false, leb-false, le-ltb, lt-leb}
+use Rattle.weighing.specs.declared.EncodeRefusal.{EncodeRefusal}
 use Rattle.bits.specs.Bits.{bit, bit_at, bits_at, pick, written}
 use Rattle.bits.specs.Calls.{bytes}
 use Rattle.bits.specs.declared.BitPos.{BitPos}
@@ -26,8 +28,6 @@ use Rattle.weighing.specs.declared.EncodeRefusal.TheVariants.{WrongLength}
 use Rattle.weighing.specs.declared.Weighed.{Weighed}
 use Rattle.weighing.specs.declared.Weighed.TheVariants.{Number, Gap, Text, Refused}
 use Rattle.writing.specs.declared.Pen.{Pen}
-use Rattle.writing.specs.declared.Begun.{Begun}
-use Rattle.writing.specs.declared.Begun.TheVariants as begun
 use Rattle.writing.specs.Ink.{text_in_lem, bytes_by, poured, inked, Puttable}
 use Rattle.writing.specs.Encode.{Mark, writes_of, by_check, begun_of, encoded_in, encoded_of, painted, image_of, buffer_in, buffer_after}
 use Rattle.writing.specs.Strokes.{size_of}
@@ -168,17 +168,17 @@ module _ (t : Table) (vs : Values) (lent buffer : List ℕ) (touched : touches (
   abbrev wrote : List Mark
   wrote = wrote_of t vs (length lent) size
 
-  begins : begun_of t size ≡ begun.Ready
+  begins : begun_of t size ≡ Ok tt
   begins = go (ltb payload_max size) (check_of t) touched
     where
-      go : (b : Bool) (c : Checked) → touches (encoded_in (pick b (begun.Refused (WrongLength (bytes size))) (by_check c)) t vs (length lent) size) ≡ true
-          → pick b (begun.Refused (WrongLength (bytes size))) (by_check c) ≡ begun.Ready
+      go : (b : Bool) (c : Checked) → touches (encoded_in (pick b (Err (WrongLength (bytes size))) (by_check c)) t vs (length lent) size) ≡ true
+          → pick b (Err (WrongLength (bytes size))) (by_check c) ≡ Ok tt
       go true c h = absurd (false≢true h)
       go false checked.Accepted h = refl
       go false (checked.Refused rule index) h = absurd (false≢true h)
 
   image : image_of size wrote lent ≡ buffer_after t vs lent buffer
-  image = sym (ap (λ (b : Begun). buffer_in b t vs lent buffer) begins)
+  image = sym (ap (λ (b : Result (Unit {0}) EncodeRefusal). buffer_in b t vs lent buffer) begins)
 
   chain : Chained size (length lent) 0 wrote (end_at wrote)
   chain = wrote-chained t vs.offered lent size

@@ -1,5 +1,6 @@
 -- Read-back: what encode accepts and writes, decode reads (`read_back`), with room for 1,785 readings always (`read-back-roomy`); of value
 -- records and a lent text in bytes as they are (`records-read-back`). Assumes nothing.
+use Rattle.std.specs.Prelude.{Result, Ok, Err}
 use mathlib.Core.Path.{◌≡◌, refl, sym, ap, ap₂, ◌∙◌, subst}
 use mathlib.Core.Logic.{inl, inr}
 use mathlib.Core.Bool.{Bool, true, false}
@@ -11,7 +12,6 @@ use lib.Ieee.{binary32}
 use lib.Ieee.Bits.{of_bits-fits}
 use lib.ListN.{length, take, get_or}
 use borrow.Author.Tests.{ltb-false, le-ltb}
-use Rattle.std.specs.Prelude.{Result, Ok}
 use Rattle.bits.specs.Bits.{pick}
 use Rattle.bits.specs.Calls.{bytes}
 use Rattle.bits.specs.declared.ByteCount.{ByteCount}
@@ -46,9 +46,6 @@ use Rattle.offers.specs.declared.Offer.{Offer}
 use Rattle.offers.specs.declared.Offer.TheVariants.{Nothing, NoKind}
 use Rattle.offers.specs.Records.{encoding_in_lem, record_bytes, record_at_lem, count_of, values_in}
 use Rattle.writing.specs.declared.Pen.{Pen}
-use Rattle.writing.specs.declared.Begun.{Begun}
-use Rattle.writing.specs.declared.Begun.TheVariants as begun
-use Rattle.writing.specs.declared.Encoded.TheVariants as encoded
 use Rattle.writing.specs.Encode.{Mark, writes_of, by_check, begun_of, bytes_used_lem, end_of, encoded_in, encoded_of, marks_of, image_of, buffer_in, buffer_after}
 use Rattle.writing.specs.Strokes.{span_of}
 use Rattle.writing.specs.ReadBack.{spans_in, Back, ReadBack, AllBytes, Offers, ReadsBack, AllHeld}
@@ -112,25 +109,25 @@ module _ (t : Table) (ok : check_of t ≡ checked.Accepted) (received : List ℕ
 pub record Accepts (t : Table) (vs : Values) (lent size n : ℕ) : Type 0 where
   pub short : size ≤ payload_max
   pub table : check_of t ≡ checked.Accepted
-  pub begins : begun_of t size ≡ begun.Ready
+  pub begins : begun_of t size ≡ Ok tt
   pub marks : List Mark
   pub end : Pen
   pub writes : writes_of t vs.offered lent size ≡ ran marks end
   pub used : n ≡ bytes_used_lem end
 
 module _ (t : Table) (vs : Values) (lent size n : ℕ) where
-  end_by : (r : Run Mark Pen EncodeRefusal) → end_of t vs.count r ≡ encoded.Ended (bytes n) → (ms : List Mark) × (s : Pen) × (r ≡ ran ms s) × (n ≡ bytes_used_lem s)
+  end_by : (r : Run Mark Pen EncodeRefusal) → end_of t vs.count r ≡ Ok (bytes n) → (ms : List Mark) × (s : Pen) × (r ≡ ran ms s) × (n ≡ bytes_used_lem s)
   end_by (ran ms s) h = (ms, s, refl, go (ltb s.used vs.count) h)
     where
-      go : (b : Bool) → pick b (encoded.Refused (ValueCount t.count)) (encoded.Ended (bytes (bytes_used_lem s))) ≡ encoded.Ended (bytes n) → n ≡ bytes_used_lem s
+      go : (b : Bool) → pick b (Err (ValueCount t.count)) (Ok (bytes (bytes_used_lem s))) ≡ Ok (bytes n) → n ≡ bytes_used_lem s
       go true e = let z : ◌≡◌ {A = ℕ} 0 1 = cc in absurd (omega arith)
       go false e = let q : bytes (bytes_used_lem s) ≡ bytes n = cc in sym (ap (λ (x : ByteCount). x.0) q)
   end_by (stopped ms f) h = let z : ◌≡◌ {A = ℕ} 0 1 = cc in absurd (omega arith)
 
-  pub accepts : encoded_of t vs lent size ≡ encoded.Ended (bytes n) → Accepts t vs lent size n
+  pub accepts : encoded_of t vs lent size ≡ Ok (bytes n) → Accepts t vs lent size n
   accepts h = go (ltb payload_max size) (check_of t) refl refl h
     where
-      go : (b : Bool) (c : Checked) → ltb payload_max size ≡ b → check_of t ≡ c → encoded_in (pick b (begun.Refused (WrongLength (bytes size))) (by_check c)) t vs lent size ≡ encoded.Ended (bytes n) → Accepts t vs lent size n
+      go : (b : Bool) (c : Checked) → ltb payload_max size ≡ b → check_of t ≡ c → encoded_in (pick b (Err (WrongLength (bytes size))) (by_check c)) t vs lent size ≡ Ok (bytes n) → Accepts t vs lent size n
       go true c q o e = let z : ◌≡◌ {A = ℕ} 0 1 = cc in absurd (omega arith)
       go false (checked.Refused rule index) q o e = let z : ◌≡◌ {A = ℕ} 0 1 = cc in absurd (omega arith)
       go false checked.Accepted q o e =
@@ -174,12 +171,12 @@ image-after : (t : Table) (vs : Values) (lent buffer : List ℕ) (n : ℕ) → (
     → take n (buffer_after t vs lent buffer) ≡ take (bytes_used_lem a.end) (image_of (length buffer) a.marks lent)
 image-after t vs lent buffer n a =
     ap₂ take a.used
-    (ap (λ (b : Begun). buffer_in b t vs lent buffer) a.begins
+    (ap (λ (b : Result (Unit {0}) EncodeRefusal). buffer_in b t vs lent buffer) a.begins
     ∙ ap (λ (r : Run Mark Pen EncodeRefusal). image_of (length buffer) (marks_of r) lent) a.writes)
 
 -- what encode accepts is read back, of a lent text of bytes and of values that a machine has
 pub read_back : (t : Table) (vs : Values) (lent buffer : List ℕ) (n : ℕ) → AllBytes lent → AllHeld vs
-    → encoded_of t vs (length lent) (length buffer) ≡ encoded.Ended (bytes n) → ReadsBack t vs lent buffer n
+    → encoded_of t vs (length lent) (length buffer) ≡ Ok (bytes n) → ReadsBack t vs lent buffer n
 read_back t vs lent buffer n texts known h =
     let size = length buffer in
     let a = accepts t vs (length lent) size n h in
@@ -200,7 +197,7 @@ read_back t vs lent buffer n texts known h =
 
 -- with room that is always enough
 pub read-back-roomy : (t : Table) (vs : Values) (lent buffer : List ℕ) (n room : ℕ) → AllBytes lent → AllHeld vs → room_enough_lem ≤ room
-    → encoded_of t vs (length lent) (length buffer) ≡ encoded.Ended (bytes n)
+    → encoded_of t vs (length lent) (length buffer) ≡ Ok (bytes n)
     → (ms : List Mark) × (s : Pen) × (writes_of t vs.offered (length lent) (length buffer) ≡ ran ms s) × (n ≡ bytes_used_lem s)
     × ReadBack t lent (take n (buffer_after t vs lent buffer)) room ms s
 read-back-roomy t vs lent buffer n room texts known l h =
@@ -236,5 +233,5 @@ records-held s h j = go (ltb j (length s / record_bytes)) (ltb j (count_of s))
 
 -- what `encode` accepts is read back: of records and a lent text that are bytes
 pub records-read-back : (t : Table) (values lent buffer : List ℕ) (n : ℕ) → AllBytes values → AllBytes lent
-    → encoded_of t (values_in values) (length lent) (length buffer) ≡ encoded.Ended (bytes n) → ReadsBack t (values_in values) lent buffer n
+    → encoded_of t (values_in values) (length lent) (length buffer) ≡ Ok (bytes n) → ReadsBack t (values_in values) lent buffer n
 records-read-back t values lent buffer n h texts e = read_back t (values_in values) lent buffer n texts (records-held values h) e

@@ -1,6 +1,7 @@
 -- Encoding: document 01, "Writing a payload". The fields met, each with what is written there, up to the end or to the first refusal; and the
 -- buffer, made of them. The answer goes by table, values, the length of the lent text and the room, and never by the buffer's bytes.
-use Rattle.std.specs.Prelude.{ℕ, ◌+◌, ◌/◌, Bool, List, [], ◌∷◌, ltb, length, replicate, get_or}
+use Rattle.std.specs.Prelude.{ℕ, ◌+◌, ◌/◌, Bool, List, [], ◌∷◌, ltb, length, replicate, get_or, Result, Ok, Err}
+use Rattle.bits.specs.declared.ByteCount.{ByteCount}
 use Rattle.bits.specs.Bits.{pick}
 use Rattle.bits.specs.Calls.{bits, bytes, saturated}
 use Rattle.descriptor.specs.declared.FieldDescriptor.{FieldDescriptor}
@@ -25,10 +26,6 @@ use Rattle.offers.specs.Values.{Values}
 use Rattle.offers.specs.declared.Offer.{Offer}
 use Rattle.offers.specs.declared.Offer.TheVariants.{Nothing, NoKind, Value}
 use Rattle.writing.specs.declared.Pen.{Pen}
-use Rattle.writing.specs.declared.Begun.{Begun}
-use Rattle.writing.specs.declared.Begun.TheVariants as begun
-use Rattle.writing.specs.declared.Encoded.{Encoded}
-use Rattle.writing.specs.declared.Encoded.TheVariants as encoded
 use Rattle.writing.specs.Ink.{inked}
 
 -- ## The walk
@@ -93,28 +90,28 @@ writes_of t offered lent size = walk_from t (one_of t offered lent size) (count_
 -- ## The answer
 
 -- "7, 8, then the walk"
-abbrev pub by_check : Checked → Begun
-by_check checked.Accepted = begun.Ready
-by_check (checked.Refused rule index) = begun.Refused (TableRefused rule index)
+abbrev pub by_check : Checked → Result (Unit {0}) EncodeRefusal
+by_check checked.Accepted = Ok tt
+by_check (checked.Refused rule index) = Err (TableRefused rule index)
 
-abbrev pub begun_of : Table → ℕ → Begun
-begun_of t size = pick (ltb payload_max size) (begun.Refused (WrongLength (bytes size))) (by_check (check_of t))
+abbrev pub begun_of : Table → ℕ → Result (Unit {0}) EncodeRefusal
+begun_of t size = pick (ltb payload_max size) (Err (WrongLength (bytes size))) (by_check (check_of t))
 
 -- "The result is bytes used, rounded up"
 abbrev pub bytes_used_lem : Pen → ℕ
 bytes_used_lem s = (s.at.0 + 7) / 8
 
 -- "left-over values last": 12, with the field count
-abbrev pub end_of : Table → ℕ → Run Mark Pen EncodeRefusal → Encoded
-end_of t count (ran ms s) = pick (ltb s.used count) (encoded.Refused (ValueCount t.count)) (encoded.Ended (bytes (bytes_used_lem s)))
-end_of t count (stopped ms f) = encoded.Refused f
+abbrev pub end_of : Table → ℕ → Run Mark Pen EncodeRefusal → Result ByteCount EncodeRefusal
+end_of t count (ran ms s) = pick (ltb s.used count) (Err (ValueCount t.count)) (Ok (bytes (bytes_used_lem s)))
+end_of t count (stopped ms f) = Err f
 
-abbrev pub encoded_in : Begun → Table → Values → ℕ → ℕ → Encoded
-encoded_in begun.Ready t vs lent size = end_of t vs.count (writes_of t vs.offered lent size)
-encoded_in (begun.Refused e) t vs lent size = encoded.Refused e
+abbrev pub encoded_in : Result (Unit {0}) EncodeRefusal → Table → Values → ℕ → ℕ → Result ByteCount EncodeRefusal
+encoded_in (Ok u) t vs lent size = end_of t vs.count (writes_of t vs.offered lent size)
+encoded_in (Err e) t vs lent size = Err e
 
 -- encoding values, with a lent text of so many bytes, into a buffer of so many
-abbrev pub encoded_of : Table → Values → ℕ → ℕ → Encoded
+abbrev pub encoded_of : Table → Values → ℕ → ℕ → Result ByteCount EncodeRefusal
 encoded_of t vs lent size = encoded_in (begun_of t size) t vs lent size
 
 -- ## The buffer
@@ -133,9 +130,9 @@ abbrev pub image_of : ℕ → List Mark → List ℕ → List ℕ
 image_of size ms lent = painted (replicate size 0xff) ms lent
 
 -- "Refusals 7 and 8 touch no buffer"
-abbrev pub buffer_in : Begun → Table → Values → List ℕ → List ℕ → List ℕ
-buffer_in begun.Ready t vs lent buffer = image_of (length buffer) (marks_of (writes_of t vs.offered (length lent) (length buffer))) lent
-buffer_in (begun.Refused e) t vs lent buffer = buffer
+abbrev pub buffer_in : Result (Unit {0}) EncodeRefusal → Table → Values → List ℕ → List ℕ → List ℕ
+buffer_in (Ok u) t vs lent buffer = image_of (length buffer) (marks_of (writes_of t vs.offered (length lent) (length buffer))) lent
+buffer_in (Err e) t vs lent buffer = buffer
 
 -- the buffer after the call, by the lent text and the buffer before it
 abbrev pub buffer_after : Table → Values → List ℕ → List ℕ → List ℕ

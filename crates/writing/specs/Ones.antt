@@ -1,13 +1,13 @@
 -- The bits that an encode leaves as ones: document 01, "Skipped fields stay ones", "all bits after are ones", and of a refused encode "all 0xFF except the
 -- fields wholly written before; the faulty field leaves no bit".
-use Rattle.std.specs.Prelude.{ℕ, ◌+◌, Bool, true, false, not, ◌&&◌, ◌||◌, List, [], ◌∷◌, eqb, leb, ltb}
+use Rattle.std.specs.Prelude.{ℕ, ◌+◌, Bool, true, false, not, ◌&&◌, ◌||◌, List, [], ◌∷◌, eqb, leb, ltb, Result, Ok, Err}
+use Rattle.weighing.specs.declared.EncodeRefusal.{EncodeRefusal}
+use Rattle.bits.specs.declared.ByteCount.{ByteCount}
 use Rattle.tables.specs.Table.{Table}
 use Rattle.weighing.specs.declared.Weighed.{Weighed}
 use Rattle.weighing.specs.declared.Weighed.TheVariants.{Number, Gap, Text, Refused}
 use Rattle.weighing.specs.Refusals.{number_of}
 use Rattle.offers.specs.Values.{Values}
-use Rattle.writing.specs.declared.Encoded.{Encoded}
-use Rattle.writing.specs.declared.Encoded.TheVariants as encoded
 use Rattle.writing.specs.Encode.{Mark, writes_of, marks_of}
 use Rattle.writing.specs.Strokes.{size_of}
 
@@ -45,6 +45,6 @@ any_puts [] i = false
 any_puts (m ∷ ms) i = puts m i || any_puts ms i
 
 -- "Refusals 7 and 8 touch no buffer": any other answer does
-abbrev pub touches : Encoded → Bool
-touches (encoded.Ended n) = true
-touches (encoded.Refused e) = not (eqb (number_of e) 7 || eqb (number_of e) 8)
+abbrev pub touches : Result ByteCount EncodeRefusal → Bool
+touches (Ok n) = true
+touches (Err e) = not (eqb (number_of e) 7 || eqb (number_of e) 8)

@@ -1,6 +1,6 @@
 -- One turn of the walk of document 01, "Writing a payload": what `write_next` answers, and what it leaves in the buffer; and what `weigh_next` does,
 -- which sees no buffer.
-use Rattle.std.specs.Prelude.{◌≡◌, ℕ, ◌+◌, ◌^◌, ◌<◌, List, replicate, length}
+use Rattle.std.specs.Prelude.{◌≡◌, ℕ, ◌+◌, ◌^◌, ◌<◌, List, replicate, length, Result, Ok, Err}
 use Rattle.bits.specs.Calls.{bits}
 use Rattle.bits.specs.declared.BitPos.{BitPos}
 use Rattle.tables.specs.Table.{Table}
@@ -19,8 +19,6 @@ use Rattle.offers.specs.declared.Offer.{Offer}
 use Rattle.offers.specs.declared.Offer.TheVariants.{Nothing, NoKind, Value}
 use Rattle.writing.specs.declared.Pen.{Pen}
 use Rattle.writing.specs.declared.Draft.{Draft}
-use Rattle.writing.specs.declared.Begun.{Begun}
-use Rattle.writing.specs.declared.Begun.TheVariants as begun
 use Rattle.writing.specs.declared.Stroke.{Stroke}
 use Rattle.writing.specs.declared.Stroke.TheVariants.{Wrote, Skipped, Moved, Ended, Refused}
 use Rattle.writing.specs.declared.Stroked.{Stroked}
@@ -128,6 +126,6 @@ abbrev pub start_of : Draft
 start_of = draft_at (spot.Field 0) beginning
 
 -- `begin`: all bits are ones
-abbrev pub ones_if : Begun → List ℕ → List ℕ
-ones_if begun.Ready buffer = replicate (length buffer) 0xff
-ones_if (begun.Refused e) buffer = buffer
+abbrev pub ones_if : Result (Unit {0}) EncodeRefusal → List ℕ → List ℕ
+ones_if (Ok u) buffer = replicate (length buffer) 0xff
+ones_if (Err e) buffer = buffer

@@ -6,8 +6,9 @@ ghost use Rattle.tables.specs.Check.{check_of};
 ghost use Rattle.tables.specs.declared.Checked.TheVariants as checked;
 ghost use Rattle.writing.specs.Clauses.{Writes, Encodes};
 
-use crate::{Begun, Encoded, Stroke, begins, strokes};
+use crate::{Stroke, begins, strokes};
 use bits::{BitPos, ByteCount};
+use weighing::EncodeRefusal;
 
 // The bytes that so many bits take, rounded up.
 pub fn bytes_used(at: BitPos) -> ByteCount
@@ -21,7 +22,12 @@ pub fn bytes_used(at: BitPos) -> ByteCount
 }
 
 // The walk, by an accepted table, through a buffer of ones.
-fn written(words: &[u64], values: &[u8], lent: &[u8], buffer: &mut [u8]) -> Encoded
+fn written(
+    words: &[u64],
+    values: &[u8],
+    lent: &[u8],
+    buffer: &mut [u8],
+) -> Result<ByteCount, EncodeRefusal>
     requires { (check_of (table_of words.now) ≡ checked.Accepted) × (buffer.old ≡ replicate (length buffer.old) 0xff) }
     ensures { Writes result buffer.new words.now values.now lent.now buffer.old }
 {
@@ -38,10 +44,10 @@ fn written(words: &[u64], values: &[u8], lent: &[u8], buffer: &mut [u8]) -> Enco
             Stroke::Skipped(_) => {}
             Stroke::Moved => {}
             Stroke::Ended => {
-                return Encoded::Ended(bytes_used(after.at));
+                return Ok(bytes_used(after.at));
             }
             Stroke::Refused(refusal) => {
-                return Encoded::Refused(refusal);
+                return Err(refusal);
             }
         }
     }
@@ -49,11 +55,14 @@ fn written(words: &[u64], values: &[u8], lent: &[u8], buffer: &mut [u8]) -> Enco
 
 // Values by a table into a buffer: the bytes used, or the refusal. The values are records of 24 bytes,
 // as specs/Records.antt of `offers` says; their texts stand in the lent text.
-pub fn encode(words: &[u64], values: &[u8], lent: &[u8], buffer: &mut [u8]) -> Encoded
+pub fn encode(
+    words: &[u64],
+    values: &[u8],
+    lent: &[u8],
+    buffer: &mut [u8],
+) -> Result<ByteCount, EncodeRefusal>
     ensures { Encodes result buffer.new words.now values.now lent.now buffer.old }
 {
-    match begins::begin(words, buffer) {
-        Begun::Ready => written(words, values, lent, buffer),
-        Begun::Refused(refusal) => Encoded::Refused(refusal),
-    }
+    begins::begin(words, buffer)?;
+    written(words, values, lent, buffer)
 }

@@ -15,7 +15,7 @@
 //     bytes_used            the bytes that so many bits take
 #![tactic(auto)]
 
-use bits::{BitPos, ByteCount};
+use bits::BitPos;
 use reading::Span;
 use walking::Spot;
 use weighing::{EncodeRefusal, Weighed};
@@ -71,18 +71,4 @@ pub struct Stroked {
 pub struct Weighing {
     pub stroked: Stroked,
     pub content: Weighed,
-}
-
-// The answer of `begin`.
-#[derive(Clone, Copy)]
-pub enum Begun {
-    Ready,
-    Refused(EncodeRefusal),
-}
-
-// The answer of an encode: the bytes used.
-#[derive(Clone, Copy)]
-pub enum Encoded {
-    Ended(ByteCount),
-    Refused(EncodeRefusal),
 }

@@ -4,5 +4,5 @@ use Rattle.text.proofs.Sheets.{then, same}
 use Rattle.compose.specs.Answers.{outcome_text}
 use Rattle.compose.proofs.answers.put_outcome.Goals as goal
 
-pub returns-in-Ended : goal.returns-in-Ended
-returns-in-Ended c = same (sym (ap outcome_text c.in-Ended.is)) (then c.put-a.ensures c.put_number.ensures)
+pub returns-in-Ok : goal.returns-in-Ok
+returns-in-Ok c = same (sym (ap outcome_text c.in-Ok.is)) (then c.put-a.ensures c.put_number.ensures)

@@ -1,4 +1,5 @@
 -- Turn by turn, what is met and what is left are the walk, and the buffer is the image of what is met.
+use Rattle.std.specs.Prelude.{Ok}
 use mathlib.Core.Path.{◌≡◌, sym, ap, ◌∙◌, subst}
 use mathlib.Core.List.{List}
 use Prim.Native.Nat.{ℕ}
@@ -10,7 +11,6 @@ use Rattle.offers.specs.declared.Offer.{Offer}
 use Rattle.offers.specs.Records.{values_in}
 use Rattle.writing.specs.declared.Draft.{Draft}
 use Rattle.writing.specs.declared.Stroked.{Stroked}
-use Rattle.writing.specs.declared.Encoded.TheVariants as encoded
 use Rattle.writing.specs.Strokes.{start_of, stroked_of, left_of}
 use Rattle.writing.proofs.Loops.{Going, going, goes_on_lem, Turned, turned}
 use Rattle.writing.proofs.Listing.{listed}
@@ -73,7 +73,7 @@ pub returns-in-Ended : goal.returns-in-Ended
 returns-in-Ended c =
     let l = left c.args.words.now c.args.values.now c.loop-refusal.invariant.0 c.loop-refusal.invariant.1 c.offer_at-offer.ensures c.write_next-next.ensures.0 c.write_next-next.ensures.1 in
     let h = l.ends c.in-Ended.is in
-    (ap encoded.Ended c.bytes_used.ensures ∙ sym h.0, h.1)
+    (ap Ok c.bytes_used.ensures ∙ sym h.0, h.1)
 
 pub returns-in-Refused : goal.returns-in-Refused
 returns-in-Refused c =
