@@ -24,8 +24,15 @@
 // no case, or is over 8,192 bytes, is answered F 14 alone. The last line may lack its newline.
 //
 // What is answered is specs/Answers.antt; that it does not depend on the chunks, and that no answer
-// waits for room forever, is proofs/Stream.antt. Here is only read and written.
+// waits for room forever, is proofs/Stream.antt. Here is read and written: `run` promises that what it
+// writes is the answers to the lines of its input, or a beginning of them where something fails.
 #![tactic(auto)]
+
+ghost use Rattle.std.specs.Prelude.{IfSome, length};
+ghost use Rattle.lines.specs.Machine.{text_of};
+ghost use Rattle.lines.specs.Held.{capped};
+ghost use Rattle.textio.specs.Run.{Prints};
+ghost use Rattle.readcalls.specs.Answers.{answered};
 
 mod alike;
 mod answers;
@@ -46,6 +53,7 @@ fn main(rt: HostRuntime) {
         input: rt.stdin(),
         output: rt.stdout(),
         errors: rt.stderr(),
+        failed: false,
     };
     let mut input = [0u8; textio::BUFFER];
     let mut line = [0u8; 8192];
@@ -54,13 +62,17 @@ fn main(rt: HostRuntime) {
 }
 
 // A proved loop has to end, and nothing says that the input does. So the loop counts its turns down,
-// from a number that no run uses up.
+// from a number that no run uses up; one that did would count as one that failed.
 fn run<R: Read, W: Write, E: Write>(
     streams: &mut Streams<R, W, E>,
     input: &mut [u8],
     line: &mut [u8],
     page: &mut [u8],
-) {
+)
+    ensures { IfSome (R.remaining streams.old.input) (λ bytes. Prints streams.new.failed
+        (W.contents streams.old.output) (W.contents streams.new.output)
+        (text_of (capped (length line.old) answered) bytes)) }
+{
     let mut turns = u64::MAX;
     let mut at = textio::start();
     let mut held = lines::nothing();
@@ -72,5 +84,8 @@ fn run<R: Read, W: Write, E: Write>(
         let p = replies::pass(held, at.waits, line, &input[from..to], page, 0);
         held = p.held;
         at = textio::store(&NAME, streams, page, p.to, p.taken, p.waits, at);
+    }
+    if at.more {
+        streams.failed = true;
     }
 }

@@ -12,9 +12,16 @@
 // the same. The last line may lack its newline. Answers are written before more input is waited for.
 // Where the input or the output fails the program says so on standard error and ends.
 //
-// What is printed, and that it does not depend on the chunks, is `printing`'s: here is only read and
-// written.
+// What is printed, and that it does not depend on the chunks, is `printing`'s. Here is read and written:
+// `run` promises that what it writes is what is printed for its input, or a beginning of it where
+// something fails.
 #![tactic(auto)]
+
+ghost use Rattle.std.specs.Prelude.{◌<◌, ◌≤◌, ◌^◌, IfSome, length};
+ghost use Rattle.lines.specs.Machine.{closed};
+ghost use Rattle.tables.specs.Check.{payload_max};
+ghost use Rattle.printing.specs.Text.{printed};
+ghost use Rattle.textio.specs.Run.{Prints};
 
 use std::io::{Read, Write};
 use tables::PAYLOAD_MAX;
@@ -27,6 +34,7 @@ fn main(rt: HostRuntime) {
         input: rt.stdin(),
         output: rt.stdout(),
         errors: rt.stderr(),
+        failed: false,
     };
     let mut input = [0u8; textio::BUFFER];
     let mut payload = [0u8; PAYLOAD_MAX];
@@ -35,13 +43,17 @@ fn main(rt: HostRuntime) {
 }
 
 // A proved loop has to end, and nothing says that the input does. So the loop counts its turns down,
-// from a number that no run uses up.
+// from a number that no run uses up; one that did would count as one that failed.
 fn run<R: Read, W: Write, E: Write>(
     streams: &mut Streams<R, W, E>,
     input: &mut [u8],
     payload: &mut [u8],
     page: &mut [u8],
-) {
+)
+    ensures { payload_max ≤ length payload.old → IfSome (R.remaining streams.old.input) (λ bytes.
+        length (closed bytes) < 2 ^ 64 → Prints streams.new.failed (W.contents streams.old.output)
+        (W.contents streams.new.output) (printed bytes)) }
+{
     let mut turns = u64::MAX;
     let mut at = textio::start();
     let mut line = frames::empty_line();
@@ -53,5 +65,8 @@ fn run<R: Read, W: Write, E: Write>(
         let p = printing::pass(line, at.waits, payload, &input[from..to], page, 0);
         line = p.line;
         at = textio::store(&NAME, streams, page, p.to, p.taken, p.waits, at);
+    }
+    if at.more {
+        streams.failed = true;
     }
 }

@@ -1,5 +1,7 @@
 -- Where a program stands with its input and output: what is handed on from call to call. What is read and written is said where the bytes of the reader and the writer are known.
 use Rattle.std.specs.Prelude.{◌≡◌, ℕ, ◌+◌, ◌-◌, ◌<◌, List, Bool, true, false, not, ◌||◌, ◌&&◌, ◌⊎◌, [], if◌then◌else◌, take, eqb, leb, ltb, length, get_or}
+use Rattle.std.specs.Prelude.{Option}
+use Rattle.std.specs.Io.KnownBytes.{Appends, IsAtEnd}
 use Rattle.textio.specs.declared.Io.{Io}
 
 -- nothing is read yet
@@ -44,6 +46,14 @@ chunk_of r chunk = if r.ended then [] else take r.to chunk
 -- the bytes that `fetch` reads: none while a call is due
 abbrev pub fetched : Bool → Io → List ℕ → List ℕ
 fetched due r chunk = if due then [] else chunk_of r chunk
+
+-- nothing is left of the input after so much of it, and its last line has its newline
+abbrev pub IsOver : Io → Option (List ℕ) → Type 0
+IsOver at left = (at.ended ≡ true) ⊎ ((at.inside ≡ false) × IsAtEnd left)
+
+-- a beginning of a text was written
+abbrev pub Begins : Option (List ℕ) → Option (List ℕ) → List ℕ → Type 0
+Begins old new text = (n : ℕ) × Appends old new (take n text)
 
 -- `store`: the next call goes on where this one, which took so many bytes, has ended, or there is none
 abbrev pub Stores : Io → Io → ℕ → Bool → Type 0

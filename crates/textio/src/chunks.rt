@@ -1,10 +1,10 @@
 // Reads and writes. `name` is the program's, for what is said on standard error.
-ghost use Rattle.std.specs.Prelude.{◌≤◌, ◌≡◌, true, false, length, take};
+ghost use Rattle.std.specs.Prelude.{◌≤◌, ◌<◌, ◌≡◌, ◌+◌, true, false, length, take, OnOk};
 ghost use Rattle.std.specs.Io.KnownBytes.{Appends, Consumes, IsAtEnd};
-ghost use Rattle.textio.specs.Io.{start_io, closed_io, due_in, moved_to, fetched, chunk_of, Reads, Fetches, Stores};
+ghost use Rattle.textio.specs.Io.{start_io, closed_io, due_in, moved_to, fetched, chunk_of, IsOver, Begins, Reads, Fetches, Stores};
 
 use crate::{Io, Streams};
-use std::io::{Cursor, Error, Read, Write};
+use std::io::{Cursor, Error, ErrorKind, Read, Write};
 
 pub fn start() -> Io
     ensures { result ≡ start_io }
@@ -53,6 +53,10 @@ pub fn fetch<R: Read, W: Write, E: Write>(
         (fetched (due_in at (length input.old)) result input.new) }
     ensures at_end { due_in at (length input.old) ≡ false → result.more ≡ true →
         result.ended ≡ true → IsAtEnd (R.remaining streams.new.input) }
+    ensures over { at.more ≡ true → result.more ≡ false → streams.new.failed ≡ false →
+        IsOver at (R.remaining streams.new.input) }
+    ensures failed { streams.new.failed ≡ false → streams.old.failed ≡ false }
+    ensures output { W.contents streams.new.output ≡ W.contents streams.old.output }
 {
     if is_due(at, input.len()) {
         return at;
@@ -76,11 +80,20 @@ fn read<R: Read, W: Write, E: Write>(
         (chunk_of result input.new) }
     ensures at_end { result.more ≡ true → result.ended ≡ true →
         IsAtEnd (R.remaining streams.new.input) }
+    ensures over { result.more ≡ false → streams.new.failed ≡ false →
+        (at.inside ≡ false) × IsAtEnd (R.remaining streams.new.input) }
+    ensures failed { streams.new.failed ≡ false → streams.old.failed ≡ false }
+    ensures output { W.contents streams.new.output ≡ W.contents streams.old.output }
 {
+    if input.len() == 0 {
+        streams.failed = true;
+        return closed(at);
+    }
     let n = match streams.input.read(input) {
         Ok(n) => n,
         Err(error) => {
             tell(&mut streams.errors, name, b": standard input: ", &error);
+            streams.failed = true;
             return closed(at);
         }
     };
@@ -100,6 +113,7 @@ fn read<R: Read, W: Write, E: Write>(
 // The input has ended: a line with no newline gets one.
 fn last(input: &mut [u8], at: Io) -> Io
     ensures reads { Reads result input.new at }
+    ensures over { 0 < length input.old → result.more ≡ false → at.inside ≡ false }
     ensures ended { result.ended ≡ true }
     ensures from_bound { (result.from ≤ 0) × (result.to ≤ length input.old) }
 {
@@ -149,21 +163,30 @@ pub fn store<R: Read, W: Write, E: Write>(
     ensures stores { Stores result at taken waits }
     ensures written { result.more ≡ true →
         Appends (W.contents streams.old.output) (W.contents streams.new.output) (take n page.now) }
+    ensures begun { Begins (W.contents streams.old.output) (W.contents streams.new.output)
+        (take n page.now) }
+    ensures whole { streams.new.failed ≡ false → (result ≡ moved_to at (at.from + taken) waits)
+        × Appends (W.contents streams.old.output) (W.contents streams.new.output) (take n page.now) }
+    ensures failed { streams.new.failed ≡ false → streams.old.failed ≡ false }
+    ensures input { R.remaining streams.new.input ≡ R.remaining streams.old.input }
 {
     let from = at.from;
     let to = at.to;
     if page.len() < n || to < from {
+        streams.failed = true;
         return closed(at);
     }
     if to - from < taken {
+        streams.failed = true;
         return closed(at);
     }
     if n == 0 && taken == 0 && (waits || from < to) {
         say(&mut streams.errors, name);
         say(&mut streams.errors, b": an answer has no room\n");
+        streams.failed = true;
         return closed(at);
     }
-    match streams.output.write_all(&page[0..n]) {
+    match put(&mut streams.output, &page[0..n]) {
         Ok(()) => {
             return moved(at, from + taken, waits);
         }
@@ -171,7 +194,25 @@ pub fn store<R: Read, W: Write, E: Write>(
             tell(&mut streams.errors, name, b": standard output: ", &error);
         }
     }
+    streams.failed = true;
     closed(at)
+}
+
+// Writes all of a text, or stops at the first write that takes nothing or fails, when some of it may have
+// been written.
+fn put<W: Write>(output: &mut W, text: &[u8]) -> Result<(), Error>
+    ensures begun { Begins (W.contents output.old) (W.contents output.new) text.now }
+    ensures whole { OnOk result (Appends (W.contents output.old) (W.contents output.new) text.now) }
+{
+    let mut done = 0;
+    while done < text.len() {
+        let n = output.write(&text[done..])?;
+        if n == 0 {
+            return Err(Error::from(ErrorKind::WriteZero));
+        }
+        done += n;
+    }
+    Ok(())
 }
 
 // A line on standard error: what failed, and why.

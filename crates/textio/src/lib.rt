@@ -5,20 +5,22 @@
 // end of the input a line that lacks its newline gets one. Where the input or the output fails it is said
 // on standard error, and the program ends; a line that a failed read cuts short is not answered.
 // Where a reader's bytes and a writer's are known, a contract says what is read and written: the input's
-// next bytes, each once, and the page, if the program goes on. Of standard input and output nothing is
-// known: a main reads, calls and writes, and holds nothing else.
+// next bytes, each once, and the page, or a beginning of it where a write fails. What that comes to, turn
+// by turn, is proofs/Turns.antt: a run writes the text of its whole input (specs/Run.antt). Of standard
+// input and output no contract knows the bytes: that they are handed on is the kit's.
 #![tactic(auto)]
 
 mod chunks;
 
 pub use crate::chunks::{fetch, start, store};
 
-// What a program reads from, writes to and says on standard error what fails.
+// What a program reads from, writes to and says on standard error what fails; and whether anything has.
 #[derive(Drop)]
 pub struct Streams<R, W, E> {
     pub input: R,
     pub output: W,
     pub errors: E,
+    pub failed: bool,
 }
 
 // The bytes of a chunk of the input, at the most, and of most programs' pages.
