@@ -14,11 +14,6 @@ get_or-filled [] (suc m) d (suc i) = get_or-filled [] m d i
 get_or-filled (x ∷ l) m d zero = refl
 get_or-filled (x ∷ l) m d (suc i) = get_or-filled l m d i
 
--- past the first
-pub get_or-later : (x : ℕ) (l : List ℕ) (d i : ℕ) → (i ≡ 0 → ⊥) → get_or l (i - 1) d ≡ get_or (x ∷ l) i d
-get_or-later x l d zero h = absurd (h refl)
-get_or-later x l d (suc i) h = let e : suc i - 1 ≡ i = omega arith in ap (λ (k : ℕ). get_or l k d) e
-
 -- filled up to n with 0xFF
 abbrev pub full : List ℕ → ℕ → List ℕ
 full l n = l ++ replicate (n - length l) 0xff

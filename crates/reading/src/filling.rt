@@ -1,10 +1,10 @@
 // The working payload: filled to the table's length where the table asks for it.
-ghost use Rattle.std.specs.Prelude.{◌≡◌, ◌++◌, ◌-◌, ◌≤◌, length, take, drop, replicate, get_or};
+ghost use Rattle.std.specs.Prelude.{◌≡◌, ◌++◌, ◌-◌, ◌≤◌, length, take, drop, replicate};
 ghost use Rattle.tables.specs.Table.{table_of};
 ghost use Rattle.reading.specs.Filling.{fills, picked_of, prepared_of};
 ghost use Rattle.reading.specs.Clauses.{Prepares};
 
-use bits::{ByteCount, least};
+use bits::ByteCount;
 use fields::DecodeRefusal;
 use tables::Checked;
 
@@ -13,23 +13,7 @@ pub fn is_filled(words: &[u64], received: usize) -> bool
     ensures { result ≡ fills (table_of words.now) received }
 {
     let minimum = tables::minimum_of(words);
-    if minimum < 1 {
-        return false;
-    }
-    if received < minimum {
-        return false;
-    }
-    received < tables::length_of(words)
-}
-
-// The byte at a place, 0xFF past the end.
-fn filled_at(received: &[u8], i: usize) -> u8
-    ensures { result ≡ get_or received.now i 0xff }
-{
-    if i < received.len() {
-        return received[i];
-    }
-    0xff
+    1 <= minimum && minimum <= received && received < tables::length_of(words)
 }
 
 // Puts the received bytes, and 0xFF after them up to n, at the front of the run.
@@ -37,11 +21,8 @@ fn fill(received: &[u8], padded: &mut [u8], n: usize)
     requires { (length received.now ≤ n) × (n ≤ length padded.old) }
     ensures { padded.new ≡ (received.now ++ replicate (n - length received.now) 0xff) ++ drop n padded.old }
 {
-    let mut i = 0;
-    while i < n {
-        padded[i] = filled_at(received, i);
-        i += 1;
-    }
+    padded[..received.len()].copy_from_slice(received);
+    padded[received.len()..n].fill(0xff);
 }
 
 // 7, 8, or nothing.
@@ -79,8 +60,7 @@ pub fn prepare(words: &[u64], received: &[u8], padded: &mut [u8]) -> Result<(), 
 fn front(s: &[u8], n: usize) -> &[u8]
     ensures { result.now ≡ take n s.now }
 {
-    let e = least(n, s.len());
-    &s[0..e]
+    &s[..n.min(s.len())]
 }
 
 // The working payload, after `prepare`: the received slice, or the front of the padding run.

@@ -3,7 +3,7 @@ ghost use Rattle.std.specs.Prelude.{◌≡◌, get_or};
 ghost use Rattle.tables.specs.Table.{table_of};
 ghost use Rattle.reading.specs.Groups.{noted as noted_of, noted_by_lem, fitting as fittingOf, element_count_lem, group_count_of};
 
-use bits::{BitPos, least};
+use bits::BitPos;
 use fields::{DecodeRefusal, Raw};
 use walking::Element;
 
@@ -11,19 +11,13 @@ use walking::Element;
 fn noted(words: &[u64], i: usize, r: u64, cs: [u64; tables::SET_MAX]) -> [u64; tables::SET_MAX]
     ensures { result ≡ noted_of (table_of words.now) i r cs }
 {
-    let mut c = cs;
-    let m = least(tables::set_count(words), tables::SET_MAX);
-    let mut k = 0;
-    while k < m {
-        let set = tables::set_at(words, k);
-        if set.counter == i {
-            c[k] = r;
-            k += 1;
-        } else {
-            k += 1;
+    let mut counters = cs;
+    for k in 0..tables::set_count(words).min(tables::SET_MAX) {
+        if tables::set_at(words, k).counter == i {
+            counters[k] = r;
         }
     }
-    c
+    counters
 }
 
 // The counters once a field has been read: one in a set counts nothing, nor does one without a raw.
@@ -49,21 +43,14 @@ pub fn noted_by(
 pub fn counter_at(cs: [u64; tables::SET_MAX], k: usize) -> u64
     ensures { result ≡ get_or cs k 0 }
 {
-    if k < tables::SET_MAX {
-        return cs[k];
-    }
-    0
+    cs.get(k).copied().unwrap_or(0)
 }
 
 // How many elements of set k fit into so many bits.
 fn fitting(words: &[u64], k: usize, left: usize) -> usize
     ensures { result ≡ fittingOf (table_of words.now) k left }
 {
-    let d = tables::group_bits(words, k);
-    if d == 0 {
-        return 0;
-    }
-    left / d
+    left.checked_div(tables::group_bits(words, k)).unwrap_or(0)
 }
 
 // How many elements set k has, with a counter of this raw and so many bits left.
@@ -71,11 +58,10 @@ fn element_count(words: &[u64], k: usize, raw: u64, left: usize) -> usize
     ensures { result ≡ element_count_lem (table_of words.now) k raw left }
 {
     let set = tables::set_at(words, k);
-    let counter = set.counter;
-    let f = tables::field_at(words, counter);
+    let f = tables::field_at(words, set.counter);
     let said = numbers::counter_elements(raw, f.width) as usize;
     let fits = fitting(words, k, left);
-    least(said, fits)
+    said.min(fits)
 }
 
 // The count of set k, by its counter's raw and the bits left: what fits, then the maximum.
