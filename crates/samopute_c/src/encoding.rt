@@ -4,14 +4,9 @@ ghost use Rattle.messages.specs.Messages.{words_of};
 ghost use Rattle.samopute_c.specs.Encodes.{encoded_status, encoded_cells};
 ghost use Rattle.samopute_c.specs.Clauses.{Encodes, EncodesPgn};
 
-<<<<<<< HEAD
-use messages::Message;
-use writing::Encoded;
-=======
 use bits::ByteCount;
-use messages::{Known, Message};
+use messages::Message;
 use weighing::EncodeRefusal;
->>>>>>> d90316e (writing, lent_values: `begin` and `encode` answer Results)
 
 // Lays out an encode's answer: its status is 0, or the refusal's number.
 fn tell_encoded(answer: &mut [u64; 4], encoded: Result<ByteCount, EncodeRefusal>) -> u32
