@@ -12,7 +12,7 @@ use Rattle.bits.specs.declared.ReadSlice.TheVariants as slice
 use lib.IntN.{pos, negsuc}
 use lib.Ieee.{fin, binary32, binary64, of_int, round, units, odd, size, span, climb, of_bits, of_fields, div, add, sub, sum, le, lt, eq}
 use mathlib.Core.Bool.{Bool, true, false}
-use Rattle.std.specs.Prelude.{Ok, Err}
+use Rattle.std.specs.Prelude.{Ok, Err, Some, None, Result}
 use Rattle.rounding.specs.Truncation.{half_away_of}
 use Rattle.numbers.specs.declared.Quantized.{Quantized}
 use Rattle.numbers.specs.declared.Quantized.TheVariants.{Raw, OutOfRange}
@@ -35,10 +35,10 @@ use Rattle.tables.specs.declared.TableRule.TheVariants as rule
 use Rattle.walking.specs.declared.Element.TheVariants.{Outside, At}
 use Rattle.walking.specs.Runs.{guard, after, and_then, times}
 use Rattle.walking.specs.Walk.{check, lift, place_from, element_at, group_at, field_by_lem, field_at, walk_from}
+use Rattle.fields.specs.declared.DecodeRefusal.{DecodeRefusal}
 use Rattle.fields.specs.declared.DecodeRefusal.TheVariants.{BitReaderError, InvalidDataLength, RepetitionsExceedCapacity, WrongLength, TableRefused, NoRoom}
 use Rattle.fields.specs.declared.FieldRead.{FieldRead}
 use Rattle.fields.specs.declared.FieldRead.TheVariants.{Got}
-use Rattle.fields.specs.declared.Raw.TheVariants as raw
 use Rattle.fields.specs.Payload.{payload_of}
 use Rattle.fields.specs.Content.{text_at_lem, field_read_of, availability_of}
 use Rattle.reading.specs.Groups.{group_count_of, noted_to}
@@ -132,19 +132,19 @@ two-fit = (refl, refl)
 abbrev text : FieldKind → FieldDescriptor
 text kind = record { kind = kind; width = 0; signed = false; resolution = Unscaled }
 
-abbrev read : FieldKind → List ℕ → FieldRead
+abbrev read : FieldKind → List ℕ → Result FieldRead DecodeRefusal
 read kind payload = field_read_of (payload_of payload) (text kind) 0 true 0
 
 -- n bits, of which so many bytes from byte `place` on are text
-abbrev text_of : ℕ → ℕ → ℕ → Encoding → FieldRead
-text_of n place len enc = Got (bits n) raw.Absent (text_at_lem place len enc)
+abbrev text_of : ℕ → ℕ → ℕ → Encoding → Result FieldRead DecodeRefusal
+text_of n place len enc = Ok (Got (bits n) None (text_at_lem place len enc))
 
 -- "LAU 0 or 1: 8 bits; 2: 16 bits, not available"
 lau :
     (read StringLau (0 ∷ []) ≡ text_of 8 0 0 encoding.Absent)
     × (read StringLau (1 ∷ []) ≡ text_of 8 0 0 encoding.Absent)
     × (read StringLau (2 ∷ 1 ∷ []) ≡ text_of 16 0 0 (encoding.Byte 1))
-    × (availability_of (payload_of (2 ∷ 1 ∷ [])) (text StringLau) raw.Absent (text_at_lem 0 0 (encoding.Byte 1)) ≡ NotAvailable)
+    × (availability_of (payload_of (2 ∷ 1 ∷ [])) (text StringLau) None (text_at_lem 0 0 (encoding.Byte 1)) ≡ NotAvailable)
 unfolding sum_bits
 lau = (refl, refl, refl, refl)
 
@@ -214,9 +214,9 @@ refusal-lines = (refl, refl, refl, refl, refl, refl, refl, refl, refl)
 
 -- "N is not available", with an element; "a raw that is none prints place:length in decimal"
 reading-lines :
-    (reading_line (record { field = 17; element = At 1; start = bits 376; bits = bits 16; raw = raw.Number 0xFFFF; value = U16 0xFFFF; availability = NotAvailable })
+    (reading_line (record { field = 17; element = At 1; start = bits 376; bits = bits 16; raw = Some 0xFFFF; value = U16 0xFFFF; availability = NotAvailable })
     ≡ 82 ∷ 32 ∷ 49 ∷ 55 ∷ 32 ∷ 49 ∷ 32 ∷ 51 ∷ 55 ∷ 54 ∷ 32 ∷ 49 ∷ 54 ∷ 32 ∷ 78 ∷ 32 ∷ 70 ∷ 70 ∷ 70 ∷ 70 ∷ 10 ∷ [])
-    × (reading_line (record { field = 2; element = Outside; start = bits 8; bits = bits 32; raw = raw.Absent; value = text_at_lem 2 12 encoding.Absent; availability = Available })
+    × (reading_line (record { field = 2; element = Outside; start = bits 8; bits = bits 32; raw = None; value = text_at_lem 2 12 encoding.Absent; availability = Available })
     ≡ 82 ∷ 32 ∷ 50 ∷ 32 ∷ 45 ∷ 32 ∷ 56 ∷ 32 ∷ 51 ∷ 50 ∷ 32 ∷ 65 ∷ 32 ∷ 50 ∷ 58 ∷ 49 ∷ 50 ∷ 10 ∷ [])
 unfolding reading_line higher
 reading-lines = (refl, refl)

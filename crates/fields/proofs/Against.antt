@@ -4,6 +4,7 @@ use mathlib.Core.Bool.{Bool, true, false}
 use Prim.Native.Nat.{ℕ, ◌+◌, ◌-◌, ◌*◌, ◌/◌}
 use native.Mathlib.Omega.{arith}
 use lib.Dec.{eqb, ltb}
+use Rattle.std.specs.Prelude.{Result, Ok, Err}
 use Rattle.bits.specs.Bits.{pick}
 use Rattle.bits.specs.declared.Room.{Room}
 use Rattle.bits.specs.declared.Room.TheVariants as room
@@ -12,8 +13,6 @@ use Rattle.fields.specs.declared.DecodeRefusal.{DecodeRefusal}
 use Rattle.fields.specs.declared.DecodeRefusal.TheVariants.{BitReaderError, InvalidDataLength, RepetitionsExceedCapacity, WrongLength, TableRefused, NoRoom}
 use Rattle.fields.specs.declared.Shape.{Shape}
 use Rattle.fields.specs.declared.Shape.TheVariants.{Number, Gap, Fixed, Whole, Lau, Lz}
-use Rattle.fields.specs.declared.Taken.{Taken}
-use Rattle.fields.specs.declared.Taken.TheVariants.{Took, Refused}
 use Rattle.fields.specs.Payload.{Payload}
 use Rattle.fields.specs.Taken.{if_room_lem, short_of, room_at, bytes_room_lem, text_room_lem, fixed_bytes_lem, lau_taken, closed_at_lem, lz_taken, taken_by}
 use Rattle.fields.proofs.Cut.{in_bits}
@@ -28,21 +27,21 @@ module _ (Q : Room → Type 0) where
   Against (TableRefused rule index) = ⊥
   Against (NoRoom i) = ⊥
 
-  abbrev pub Meets : Taken → Type 0
-  Meets (Took n) = Unit {0}
-  Meets (Refused f) = Against f
+  abbrev pub Meets : Result ℕ DecodeRefusal → Type 0
+  Meets (Ok n) = Unit {0}
+  Meets (Err f) = Against f
 
-  if-room : (r : Room) (i : ℕ) (later : Taken) → Q r → (r ≡ room.Fits → Meets later) → Meets (if_room_lem r i later)
+  if-room : (r : Room) (i : ℕ) (later : Result ℕ DecodeRefusal) → Q r → (r ≡ room.Fits → Meets later) → Meets (if_room_lem r i later)
   if-room room.Fits i later a h = h refl
   if-room (room.Refused e) i later a h = a
 
-  short-of : (strict : Bool) (i : ℕ) (r : Room) (n : ℕ) → Q r → Meets (short_of strict i r (Took n))
+  short-of : (strict : Bool) (i : ℕ) (r : Room) (n : ℕ) → Q r → Meets (short_of strict i r (Ok n))
   short-of true i room.Fits n a = tt
   short-of false i room.Fits n a = tt
   short-of true i (room.Refused e) n a = tt
   short-of false i (room.Refused e) n a = a
 
-  either : (b : Bool) (x y : Taken) → Meets x → Meets y → Meets (pick b x y)
+  either : (b : Bool) (x y : Result ℕ DecodeRefusal) → Meets x → Meets y → Meets (pick b x y)
   either true x y h k = h
   either false x y h k = k
 
@@ -58,22 +57,22 @@ module _ (Q : Room → Type 0) where
 
     lau : (i at len : ℕ) → Meets (lau_taken p i at len)
     lau i at len =
-        either (ltb payload_max len) (Refused (InvalidDataLength i)) _ tt
-        (either (ltb len 2) (Took 8) _ tt
+        either (ltb payload_max len) (Err (InvalidDataLength i)) _ tt
+        (either (ltb len 2) (Ok 8) _ tt
         (if-room (room_at p (at + 8) 8) i _ (byte (at + 8)) (λ h.
-        if-room (text_room_lem p (at + 16) (len - 2)) i (Took (16 + 8 * (len - 2)))
+        if-room (text_room_lem p (at + 16) (len - 2)) i (Ok (16 + 8 * (len - 2)))
         (text (at + 16) (len - 2) (after (at + 8) (at + 16) (omega arith) h)) (λ g. tt))))
 
     lz : (i at len : ℕ) → From (at + 8) → Meets (lz_taken p i at len)
     lz i at len l =
-        either (ltb payload_max len) (Refused (InvalidDataLength i)) _ tt
-        (if-room (text_room_lem p (at + 8) len) i (Took (closed_at_lem p at (8 + 8 * len))) (text (at + 8) len l) (λ g. tt))
+        either (ltb payload_max len) (Err (InvalidDataLength i)) _ tt
+        (if-room (text_room_lem p (at + 8) len) i (Ok (closed_at_lem p at (8 + 8 * len))) (text (at + 8) len l) (λ g. tt))
 
     pub taken-meets : (i at : ℕ) → From at → (sh : Shape) (early : Bool) (w : ℕ) → (in_bits sh ≡ true → Q (room_at p at w)) → Meets (taken_by sh p i early w at)
     taken-meets i at l (Number strict) early w f = short-of strict i (room_at p at w) w (f refl)
-    taken-meets i at l Gap early w f = if-room (room_at p at w) i (Took w) (f refl) (λ h. tt)
+    taken-meets i at l Gap early w f = if-room (room_at p at w) i (Ok w) (f refl) (λ h. tt)
     taken-meets i at l Fixed early w f =
-        if-room (bytes_room_lem p at (fixed_bytes_lem p early at w)) i (Took (8 * fixed_bytes_lem p early at w)) (slice at (fixed_bytes_lem p early at w) l) (λ h. tt)
-    taken-meets i at l Whole early w f = if-room (bytes_room_lem p at (w / 8)) i (Took (8 * (w / 8))) (slice at (w / 8) l) (λ h. tt)
+        if-room (bytes_room_lem p at (fixed_bytes_lem p early at w)) i (Ok (8 * fixed_bytes_lem p early at w)) (slice at (fixed_bytes_lem p early at w) l) (λ h. tt)
+    taken-meets i at l Whole early w f = if-room (bytes_room_lem p at (w / 8)) i (Ok (8 * (w / 8))) (slice at (w / 8) l) (λ h. tt)
     taken-meets i at l Lau early w f = if-room (room_at p at 8) i _ (byte at) (λ h. lau i at (p.bits at 8))
     taken-meets i at l Lz early w f = if-room (room_at p at 8) i _ (byte at) (λ h. lz i at (p.bits at 8) (after at (at + 8) refl h))

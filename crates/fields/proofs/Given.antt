@@ -6,6 +6,7 @@ use Prim.Native.Nat.{ℕ, ◌+◌, ◌-◌, ◌*◌, ◌/◌, ◌%◌, ◌≤◌
 use native.Mathlib.Omega.{arith}
 use lib.Dec.{eqb, ltb}
 use borrow.Author.Tests.{le-ltb}
+use Rattle.std.specs.Prelude.{Result, Ok, Err}
 use Rattle.bits.specs.Calls.{bits, refuse, room_of, out_of_bytes, width_max}
 use Rattle.bits.specs.declared.BitPos.{BitPos}
 use Rattle.bits.specs.declared.ByteCount.{ByteCount}
@@ -15,9 +16,8 @@ use Rattle.bits.specs.declared.Room.TheVariants as room
 use Rattle.tables.specs.Table.{Table}
 use Rattle.tables.specs.Check.{check_of, payload_max}
 use Rattle.tables.specs.declared.Checked.TheVariants.{Accepted}
+use Rattle.fields.specs.declared.DecodeRefusal.{DecodeRefusal}
 use Rattle.fields.specs.declared.DecodeRefusal.TheVariants.{BitReaderError, InvalidDataLength, RepetitionsExceedCapacity, WrongLength, TableRefused, NoRoom}
-use Rattle.fields.specs.declared.Taken.{Taken}
-use Rattle.fields.specs.declared.Taken.TheVariants.{Took, Refused}
 use Rattle.fields.specs.Payload.{Payload}
 use Rattle.fields.specs.Refusals.{number_of, given_in_walk}
 use Rattle.fields.specs.Shapes.{shape_of}
@@ -60,24 +60,24 @@ module _ (p : Payload) (small : p.size ≤ payload_max) (at : ℕ) where
 -- ## Fields
 
 -- what is taken, or a refusal that the walk of a decode gives
-abbrev pub Given : Taken → Type 0
-Given (Took n) = Unit {0}
-Given (Refused f) = given_in_walk (number_of f) ≡ true
+abbrev pub Given : Result ℕ DecodeRefusal → Type 0
+Given (Ok n) = Unit {0}
+Given (Err f) = given_in_walk (number_of f) ≡ true
 
-fair-given : {r : Room} (i : ℕ) → Fair r → Given (if_room_lem r i (Took 0))
+fair-given : {r : Room} (i : ℕ) → Fair r → Given (if_room_lem r i (Ok 0))
 fair-given i fits = tt
 fair-given i beyond-bits = refl
 fair-given i beyond-bytes = refl
 fair-given i unaligned = refl
 
-given_by : (o : Taken) → Meets Fair o → Given o
-given_by (Took n) h = tt
-given_by (Refused (BitReaderError i e)) h = fair-given i h
-given_by (Refused (InvalidDataLength i)) h = refl
-given_by (Refused (RepetitionsExceedCapacity set count maximum)) h = absurd h
-given_by (Refused (WrongLength n)) h = absurd h
-given_by (Refused (TableRefused rule index)) h = absurd h
-given_by (Refused (NoRoom i)) h = absurd h
+given_by : (o : Result ℕ DecodeRefusal) → Meets Fair o → Given o
+given_by (Ok n) h = tt
+given_by (Err (BitReaderError i e)) h = fair-given i h
+given_by (Err (InvalidDataLength i)) h = refl
+given_by (Err (RepetitionsExceedCapacity set count maximum)) h = absurd h
+given_by (Err (WrongLength n)) h = absurd h
+given_by (Err (TableRefused rule index)) h = absurd h
+given_by (Err (NoRoom i)) h = absurd h
 
 pub field-given : (t : Table) → check_of t ≡ Accepted → (i : ℕ) → i < t.count → (p : Payload) → p.size ≤ payload_max → (early : Bool) (at : ℕ) → Given (taken_of p (t.field i) i early at)
 field-given t ok i l p small early at =

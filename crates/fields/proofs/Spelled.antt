@@ -6,6 +6,7 @@ use Prim.Native.Nat.{ℕ, ◌+◌, ◌-◌, ◌*◌, ◌/◌, ◌≤◌, ◌<◌
 use native.Mathlib.Omega.{arith}
 use lib.Dec.{ltb}
 use borrow.Author.Tests.{le-ltb, lt-ltb}
+use Rattle.std.specs.Prelude.{Some, None, Result, Ok, Err}
 use Rattle.bits.specs.Bits.{pick, bits_at}
 use Rattle.bits.specs.Calls.{bits, cursor_at, place, read_in, as8, advance_in}
 use Rattle.bits.specs.declared.Cursor.{Cursor}
@@ -21,12 +22,10 @@ use Rattle.descriptor.specs.declared.Encoding.TheVariants as encoding
 use Rattle.descriptor.specs.declared.FieldDescriptor.{FieldDescriptor}
 use Rattle.numbers.specs.Scaling.{scale_of}
 use Rattle.tables.specs.Check.{payload_max}
+use Rattle.fields.specs.declared.DecodeRefusal.{DecodeRefusal}
 use Rattle.fields.specs.declared.DecodeRefusal.TheVariants.{InvalidDataLength}
-use Rattle.fields.specs.declared.Raw.TheVariants as raw
 use Rattle.fields.specs.declared.Shape.{Shape}
 use Rattle.fields.specs.declared.Shape.TheVariants as shape
-use Rattle.fields.specs.declared.Taken.{Taken}
-use Rattle.fields.specs.declared.Taken.TheVariants as taken
 use Rattle.fields.specs.declared.FieldRead.{FieldRead}
 use Rattle.fields.specs.declared.FieldRead.TheVariants as read
 use Rattle.fields.specs.Payload.{Payload, payload_of, bits_left}
@@ -38,13 +37,13 @@ eighth n = omega arith
 
 -- a StringFix, and a Binary of whole bytes
 pub fixed-text : (r : Room) (f : FieldDescriptor) (p : Payload) (i at n : ℕ)
-    → text_read_lem r i (8 * n) (at / 8) n encoding.Absent ≡ read_over (if_room_lem r i (taken.Took (8 * n))) shape.Fixed f p at
-fixed-text room.Fits f p i at n = ap (λ (k : ℕ). read.Got (bits (8 * n)) raw.Absent (text_at_lem (at / 8) k encoding.Absent)) (sym (eighth n))
+    → text_read_lem r i (8 * n) (at / 8) n encoding.Absent ≡ read_over (if_room_lem r i (Ok (8 * n))) shape.Fixed f p at
+fixed-text room.Fits f p i at n = ap (λ (k : ℕ). Ok (read.Got (bits (8 * n)) None (text_at_lem (at / 8) k encoding.Absent))) (sym (eighth n))
 fixed-text (room.Refused e) f p i at n = refl
 
 pub whole-text : (r : Room) (f : FieldDescriptor) (p : Payload) (i at n : ℕ)
-    → text_read_lem r i (8 * n) (at / 8) n encoding.Absent ≡ read_over (if_room_lem r i (taken.Took (8 * n))) shape.Whole f p at
-whole-text room.Fits f p i at n = ap (λ (k : ℕ). read.Got (bits (8 * n)) raw.Absent (text_at_lem (at / 8) k encoding.Absent)) (sym (eighth n))
+    → text_read_lem r i (8 * n) (at / 8) n encoding.Absent ≡ read_over (if_room_lem r i (Ok (8 * n))) shape.Whole f p at
+whole-text room.Fits f p i at n = ap (λ (k : ℕ). Ok (read.Got (bits (8 * n)) None (text_at_lem (at / 8) k encoding.Absent))) (sym (eighth n))
 whole-text (room.Refused e) f p i at n = refl
 
 -- a StringFix takes at most its size
@@ -72,56 +71,56 @@ module _ (s : List ℕ) (c : Cursor) (n v : ℕ) (d : Cursor) where
 -- ## StringLau
 
 -- a length byte over 223, of whatever it is the length
-pub too_long : (i len : ℕ) (later : Taken) (sh : Shape) (f : FieldDescriptor) (p : Payload) (at : ℕ) → payload_max < len
-    → read.Refused (InvalidDataLength i) ≡ read_over (if_length i len later) sh f p at
-too_long i len later sh f p at l = ap (λ (b : Bool). read_over (pick b (taken.Refused (InvalidDataLength i)) later) sh f p at) (sym (lt-ltb payload_max len l))
+pub too_long : (i len : ℕ) (later : Result ℕ DecodeRefusal) (sh : Shape) (f : FieldDescriptor) (p : Payload) (at : ℕ) → payload_max < len
+    → Err (InvalidDataLength i) ≡ read_over (if_length i len later) sh f p at
+too_long i len later sh f p at l = ap (λ (b : Bool). read_over (pick b (Err (InvalidDataLength i)) later) sh f p at) (sym (lt-ltb payload_max len l))
 
-short-enough : (i len : ℕ) (later : Taken) → len ≤ payload_max → later ≡ if_length i len later
-short-enough i len later l = ap (λ (b : Bool). pick b (taken.Refused (InvalidDataLength i)) later) (sym (le-ltb payload_max len l))
+short-enough : (i len : ℕ) (later : Result ℕ DecodeRefusal) → len ≤ payload_max → later ≡ if_length i len later
+short-enough i len later l = ap (λ (b : Bool). pick b (Err (InvalidDataLength i)) later) (sym (le-ltb payload_max len l))
 
 module _ (f : FieldDescriptor) (s : List ℕ) (i at len : ℕ) where
   abbrev p : Payload
   p = payload_of s
 
   -- what stands after the length byte
-  abbrev rest : Taken
-  rest = if_room_lem (room_at p (at + 8) 8) i (if_room_lem (text_room_lem p (at + 16) (len - 2)) i (taken.Took (16 + 8 * (len - 2))))
+  abbrev rest : Result ℕ DecodeRefusal
+  rest = if_room_lem (room_at p (at + 8) 8) i (if_room_lem (text_room_lem p (at + 16) (len - 2)) i (Ok (16 + 8 * (len - 2))))
 
-  lau-none : len < 2 → taken.Took 8 ≡ pick (ltb len 2) (taken.Took 8) rest
-  lau-none l = ap (λ (b : Bool). pick b (taken.Took 8) rest) (sym (lt-ltb len 2 l))
+  lau-none : len < 2 → Ok 8 ≡ pick (ltb len 2) (Ok 8) rest
+  lau-none l = ap (λ (b : Bool). pick b (Ok 8) rest) (sym (lt-ltb len 2 l))
 
-  lau-more : 2 ≤ len → rest ≡ pick (ltb len 2) (taken.Took 8) rest
-  lau-more l = ap (λ (b : Bool). pick b (taken.Took 8) rest) (sym (le-ltb len 2 l))
+  lau-more : 2 ≤ len → rest ≡ pick (ltb len 2) (Ok 8) rest
+  lau-more l = ap (λ (b : Bool). pick b (Ok 8) rest) (sym (le-ltb len 2 l))
 
   pub lau-empty : len ≤ payload_max → len < 2 → text_read_lem room.Fits i 8 0 0 encoding.Absent ≡ read_over (lau_taken p i at len) shape.Lau f p at
-  lau-empty l m = ap (λ (t : Taken). read_over t shape.Lau f p at) (lau-none m ∙ short-enough i len _ l)
+  lau-empty l m = ap (λ (t : Result ℕ DecodeRefusal). read_over t shape.Lau f p at) (lau-none m ∙ short-enough i len _ l)
 
   -- the encoding byte as it was read
-  abbrev pub lau_says : ReadU8 → FieldRead
+  abbrev pub lau_says : ReadU8 → Result FieldRead DecodeRefusal
   lau_says (read8.Got v d) = text_read_lem (text_room_lem p (at + 16) (len - 2)) i (16 + 8 * (len - 2)) (at / 8 + 2) (len - 2) (encoding.Byte v)
   lau_says (read8.Refused e) = refused_of i e
 
   text_in : (r : Room) → text_read_lem r i (16 + 8 * (len - 2)) (at / 8 + 2) (len - 2) (encoding.Byte (p.bits (at + 8) 8))
-      ≡ read_over (if_room_lem r i (taken.Took (16 + 8 * (len - 2)))) shape.Lau f p at
+      ≡ read_over (if_room_lem r i (Ok (16 + 8 * (len - 2)))) shape.Lau f p at
   text_in room.Fits =
       let k : len - 2 ≡ (16 + 8 * (len - 2)) / 8 - 2 = omega arith in
       let b : ltb (16 + 8 * (len - 2)) 16 ≡ false = le-ltb (16 + 8 * (len - 2)) 16 (omega arith) in
-      ap₂ (λ (x : ℕ) (y : Bool). read.Got (bits (16 + 8 * (len - 2))) raw.Absent (text_at_lem (at / 8 + 2) x (pick y encoding.Absent (encoding.Byte (p.bits (at + 8) 8))))) k (sym b)
+      ap₂ (λ (x : ℕ) (y : Bool). Ok (read.Got (bits (16 + 8 * (len - 2))) None (text_at_lem (at / 8 + 2) x (pick y encoding.Absent (encoding.Byte (p.bits (at + 8) 8)))))) k (sym b)
   text_in (room.Refused e) = refl
 
   lau-says : (r : Room) → lau_says (as8 (read_in r s (cursor_at (at + 8)) 8))
-      ≡ read_over (if_room_lem r i (if_room_lem (text_room_lem p (at + 16) (len - 2)) i (taken.Took (16 + 8 * (len - 2))))) shape.Lau f p at
+      ≡ read_over (if_room_lem r i (if_room_lem (text_room_lem p (at + 16) (len - 2)) i (Ok (16 + 8 * (len - 2))))) shape.Lau f p at
   lau-says room.Fits = text_in (text_room_lem p (at + 16) (len - 2))
   lau-says (room.Refused e) = refl
 
   pub lau-text : len ≤ payload_max → 2 ≤ len → lau_says (as8 (read_in (room_at p (at + 8) 8) s (cursor_at (at + 8)) 8)) ≡ read_over (lau_taken p i at len) shape.Lau f p at
-  lau-text l m = lau-says (room_at p (at + 8) 8) ∙ ap (λ (t : Taken). read_over t shape.Lau f p at) (lau-more m ∙ short-enough i len _ l)
+  lau-text l m = lau-says (room_at p (at + 8) 8) ∙ ap (λ (t : Result ℕ DecodeRefusal). read_over t shape.Lau f p at) (lau-more m ∙ short-enough i len _ l)
 
 -- ## Length bytes
 
-module _ (f : FieldDescriptor) (s : List ℕ) (i at : ℕ) (sh : Shape) (after : ℕ → Taken) where
+module _ (f : FieldDescriptor) (s : List ℕ) (i at : ℕ) (sh : Shape) (after : ℕ → Result ℕ DecodeRefusal) where
   -- the length byte as it was read, and what follows it
-  abbrev pub length_says : ReadU64 → FieldRead
+  abbrev pub length_says : ReadU64 → Result FieldRead DecodeRefusal
   length_says (read64.Got v d) = read_over (after v) sh f (payload_of s) at
   length_says (read64.Refused e) = refused_of i e
 
@@ -132,34 +131,34 @@ module _ (f : FieldDescriptor) (s : List ℕ) (i at : ℕ) (sh : Shape) (after :
 -- ## StringLz
 
 lz-in : (r : Room) (f : FieldDescriptor) (p : Payload) (i at len n : ℕ) → len ≡ p.bits at 8
-    → text_read_lem r i n (at / 8 + 1) len encoding.Absent ≡ read_over (if_room_lem r i (taken.Took n)) shape.Lz f p at
-lz-in room.Fits f p i at len n h = ap (λ (x : ℕ). read.Got (bits n) raw.Absent (text_at_lem (at / 8 + 1) x encoding.Absent)) h
+    → text_read_lem r i n (at / 8 + 1) len encoding.Absent ≡ read_over (if_room_lem r i (Ok n)) shape.Lz f p at
+lz-in room.Fits f p i at len n h = ap (λ (x : ℕ). Ok (read.Got (bits n) None (text_at_lem (at / 8 + 1) x encoding.Absent))) h
 lz-in (room.Refused e) f p i at len n h = refl
 
 pub lz-text : (f : FieldDescriptor) (p : Payload) (i at len : ℕ) → len ≤ payload_max → len ≡ p.bits at 8
     → text_read_lem (text_room_lem p (at + 8) len) i (closed_at_lem p at (8 + 8 * len)) (at / 8 + 1) len encoding.Absent ≡ read_over (lz_taken p i at len) shape.Lz f p at
 lz-text f p i at len l h =
-    lz-in (text_room_lem p (at + 8) len) f p i at len (closed_at_lem p at (8 + 8 * len)) h ∙ ap (λ (t : Taken). read_over t shape.Lz f p at) (short-enough i len _ l)
+    lz-in (text_room_lem p (at + 8) len) f p i at len (closed_at_lem p at (8 + 8 * len)) h ∙ ap (λ (t : Result ℕ DecodeRefusal). read_over t shape.Lz f p at) (short-enough i len _ l)
 
 -- ## Numbers and skipped bits
 
 module _ (f : FieldDescriptor) (s : List ℕ) (i at : ℕ) where
-  abbrev pub number_says : Bool → ReadU64 → FieldRead
-  number_says strict (read64.Got v d) = read.Got (bits f.width) (raw.Number v) (scale_of f v)
-  number_says true (read64.Refused e) = read.Refused (InvalidDataLength i)
+  abbrev pub number_says : Bool → ReadU64 → Result FieldRead DecodeRefusal
+  number_says strict (read64.Got v d) = Ok (read.Got (bits f.width) (Some v) (scale_of f v))
+  number_says true (read64.Refused e) = Err (InvalidDataLength i)
   number_says false (read64.Refused e) = refused_of i e
 
   pub number-says : (strict : Bool) (r : Room) → number_says strict (read_in r s (cursor_at at) f.width)
-      ≡ read_over (short_of strict i r (taken.Took f.width)) (shape.Number strict) f (payload_of s) at
+      ≡ read_over (short_of strict i r (Ok f.width)) (shape.Number strict) f (payload_of s) at
   number-says true room.Fits = refl
   number-says false room.Fits = refl
   number-says true (room.Refused e) = refl
   number-says false (room.Refused e) = refl
 
-  abbrev pub gap_says : Moved → FieldRead
-  gap_says (moved.To d) = read.Skipped (bits f.width)
+  abbrev pub gap_says : Moved → Result FieldRead DecodeRefusal
+  gap_says (moved.To d) = Ok (read.Skipped (bits f.width))
   gap_says (moved.Refused e) = refused_of i e
 
-  pub gap-says : (r : Room) → gap_says (advance_in r (cursor_at at) f.width) ≡ read_over (if_room_lem r i (taken.Took f.width)) shape.Gap f (payload_of s) at
+  pub gap-says : (r : Room) → gap_says (advance_in r (cursor_at at) f.width) ≡ read_over (if_room_lem r i (Ok f.width)) shape.Gap f (payload_of s) at
   gap-says room.Fits = refl
   gap-says (room.Refused e) = refl

@@ -1,5 +1,5 @@
 -- What is read of a field, from its own bits alone: document 01, "Reading a payload", "A reading has ..".
-use Rattle.std.specs.Prelude.{ℕ, ◌+◌, ◌-◌, ◌*◌, ◌/◌, Bool, true, false, ◌||◌, ltb, eqb}
+use Rattle.std.specs.Prelude.{ℕ, ◌+◌, ◌-◌, ◌*◌, ◌/◌, Bool, true, false, ◌||◌, ltb, eqb, Option, Some, None, Result, Ok, Err}
 use Rattle.bits.specs.Bits.{pick}
 use Rattle.bits.specs.Calls.{bits, bytes}
 use Rattle.bits.specs.declared.BitRefusal.{BitRefusal}
@@ -15,15 +15,12 @@ use Rattle.descriptor.specs.declared.Availability.{Availability}
 use Rattle.descriptor.specs.declared.Availability.TheVariants.{Available, NotAvailable}
 use Rattle.numbers.specs.Scaling.{scale_of}
 use Rattle.numbers.specs.Special.{number_availability_of}
+use Rattle.fields.specs.declared.DecodeRefusal.{DecodeRefusal}
 use Rattle.fields.specs.declared.DecodeRefusal.TheVariants.{BitReaderError}
-use Rattle.fields.specs.declared.Raw.{Raw}
-use Rattle.fields.specs.declared.Raw.TheVariants as raw
 use Rattle.fields.specs.declared.Shape.{Shape}
 use Rattle.fields.specs.declared.Shape.TheVariants.{Number, Gap, Fixed, Whole, Lau, Lz}
-use Rattle.fields.specs.declared.Taken.{Taken}
-use Rattle.fields.specs.declared.Taken.TheVariants as taken
 use Rattle.fields.specs.declared.FieldRead.{FieldRead}
-use Rattle.fields.specs.declared.FieldRead.TheVariants.{Got, Skipped, Refused}
+use Rattle.fields.specs.declared.FieldRead.TheVariants.{Got, Skipped}
 use Rattle.fields.specs.Payload.{Payload}
 use Rattle.fields.specs.Shapes.{shape_of}
 use Rattle.fields.specs.Taken.{taken_of}
@@ -37,13 +34,13 @@ abbrev pub encoding_in_lem : Payload → ℕ → ℕ → Encoding
 encoding_in_lem p at n = pick (ltb n 16) encoding.Absent (encoding.Byte (p.bits (at + 8) 8))
 
 -- "raw (or none)": of the n bits from `at` on
-abbrev pub raw_in : Shape → Payload → ℕ → ℕ → Raw
-raw_in (Number strict) p at n = raw.Number (p.bits at n)
-raw_in Gap p at n = raw.Absent
-raw_in Fixed p at n = raw.Absent
-raw_in Whole p at n = raw.Absent
-raw_in Lau p at n = raw.Absent
-raw_in Lz p at n = raw.Absent
+abbrev pub raw_in : Shape → Payload → ℕ → ℕ → Option ℕ
+raw_in (Number strict) p at n = Some (p.bits at n)
+raw_in Gap p at n = None
+raw_in Fixed p at n = None
+raw_in Whole p at n = None
+raw_in Lau p at n = None
+raw_in Lz p at n = None
 
 -- "value"; a skipped field has none, and what stands here for it is never looked at
 abbrev pub value_in : Shape → FieldDescriptor → Payload → ℕ → ℕ → PgnValue
@@ -86,12 +83,12 @@ by_text (F64 x) says = Available
 by_text (F32 x) says = Available
 
 -- by the raw, if there is one
-abbrev pub by_raw : FieldDescriptor → Raw → Availability
-by_raw f (raw.Number r) = number_availability_of f r
-by_raw f raw.Absent = Available
+abbrev pub by_raw : FieldDescriptor → Option ℕ → Availability
+by_raw f (Some r) = number_availability_of f r
+by_raw f None = Available
 
 -- "Not available: .. All else is available"
-abbrev pub availability_by : Shape → Payload → FieldDescriptor → Raw → PgnValue → Availability
+abbrev pub availability_by : Shape → Payload → FieldDescriptor → Option ℕ → PgnValue → Availability
 availability_by (Number strict) p f r v = by_raw f r
 availability_by Gap p f r v = Available
 availability_by Fixed p f r v = by_text v (fixed_says_lem p)
@@ -99,17 +96,17 @@ availability_by Whole p f r v = Available
 availability_by Lau p f r v = by_text v text_says_lem
 availability_by Lz p f r v = by_text v text_says_lem
 
-abbrev pub availability_of : Payload → FieldDescriptor → Raw → PgnValue → Availability
+abbrev pub availability_of : Payload → FieldDescriptor → Option ℕ → PgnValue → Availability
 availability_of p f r v = availability_by (shape_of f) p f r v
 
 -- what a bit call refused: "1 to 3 also name the field"
-abbrev pub refused_of : ℕ → BitRefusal → FieldRead
-refused_of i e = Refused (BitReaderError i e)
+abbrev pub refused_of : ℕ → BitRefusal → Result FieldRead DecodeRefusal
+refused_of i e = Err (BitReaderError i e)
 
 -- n bytes at a place, of a field that takes so many bits, if there is room for them: what the code goes by; proofs/Spelled.antt ties it
 -- to the definitions below
-abbrev pub text_read_lem : Room → ℕ → ℕ → ℕ → ℕ → Encoding → FieldRead
-text_read_lem room.Fits i taken place n enc = Got (bits taken) raw.Absent (text_at_lem place n enc)
+abbrev pub text_read_lem : Room → ℕ → ℕ → ℕ → ℕ → Encoding → Result FieldRead DecodeRefusal
+text_read_lem room.Fits i taken place n enc = Ok (Got (bits taken) None (text_at_lem place n enc))
 text_read_lem (room.Refused e) i taken place n enc = refused_of i e
 
 -- a field that takes the n bits from `at` on: "Reserved and Spare are skipped"
@@ -122,10 +119,10 @@ read_as Lau f p at n = Got (bits n) (raw_in Lau p at n) (value_in Lau f p at n)
 read_as Lz f p at n = Got (bits n) (raw_in Lz p at n) (value_in Lz f p at n)
 
 -- what is read of the bits taken, or the refusal
-abbrev pub read_over : Taken → Shape → FieldDescriptor → Payload → ℕ → FieldRead
-read_over (taken.Took n) sh f p at = read_as sh f p at n
-read_over (taken.Refused e) sh f p at = Refused e
+abbrev pub read_over : Result ℕ DecodeRefusal → Shape → FieldDescriptor → Payload → ℕ → Result FieldRead DecodeRefusal
+read_over (Ok n) sh f p at = Ok (read_as sh f p at n)
+read_over (Err e) sh f p at = Err e
 
 -- `read_field_raw_and_value`
-abbrev pub field_read_of : Payload → FieldDescriptor → ℕ → Bool → ℕ → FieldRead
+abbrev pub field_read_of : Payload → FieldDescriptor → ℕ → Bool → ℕ → Result FieldRead DecodeRefusal
 field_read_of p f i early at = read_over (taken_of p f i early at) (shape_of f) f p at

@@ -3,7 +3,7 @@ ghost use Rattle.std.specs.Prelude.{◌≡◌, ◌*◌};
 ghost use Rattle.fields.specs.Payload.{payload_of};
 ghost use Rattle.fields.specs.Content.{ends, unless, fixed_says_lem, text_says_lem, by_text, by_raw, availability_of};
 
-use crate::{Raw, Shape, shapes};
+use crate::{Shape, shapes};
 use descriptor::{Availability, FieldDescriptor, PgnValue};
 
 fn unless_it(absent: bool) -> Availability
@@ -50,17 +50,22 @@ fn text_says(value: PgnValue) -> Availability
     unless_it(b.len.0 == 0)
 }
 
-fn raw_says(f: FieldDescriptor, raw: Raw) -> Availability
+fn raw_says(f: FieldDescriptor, raw: Option<u64>) -> Availability
     ensures { result ≡ by_raw f raw }
 {
     match raw {
-        Raw::Number(n) => numbers::number_availability(n, f),
-        Raw::Absent => Availability::Available,
+        Some(n) => numbers::number_availability(n, f),
+        None => Availability::Available,
     }
 }
 
 // Of what was read of a field in the payload s.
-pub fn field_availability(s: &[u8], f: FieldDescriptor, raw: Raw, value: PgnValue) -> Availability
+pub fn field_availability(
+    s: &[u8],
+    f: FieldDescriptor,
+    raw: Option<u64>,
+    value: PgnValue,
+) -> Availability
     ensures { result ≡ availability_of (payload_of s.now) f raw value }
 {
     match shapes::shape_of(f) {

@@ -73,30 +73,16 @@ pub enum Shape {
     Lz,
 }
 
-// The bits that a field takes, or why it cannot be read.
-#[derive(Clone, Copy)]
-pub enum Taken {
-    Took(usize),
-    Refused(DecodeRefusal),
-}
-
-// The number in a field's bits; a text or bytes have none.
-#[derive(Clone, Copy)]
-pub enum Raw {
-    Absent,
-    Number(u64),
-}
-
-// The answer of `read_field_raw_and_value`.
+// What `read_field_raw_and_value` reads of a field. The raw is the number in its bits; a text or bytes
+// have none.
 #[derive(Clone, Copy)]
 pub enum FieldRead {
     Got {
         bits: BitPos,
-        raw: Raw,
+        raw: Option<u64>,
         value: PgnValue,
     },
     Skipped {
         bits: BitPos,
     },
-    Refused(DecodeRefusal),
 }

@@ -5,12 +5,19 @@ ghost use Rattle.fields.specs.declared.Shape.TheVariants as shape;
 ghost use Rattle.fields.specs.Taken.{taken_by};
 ghost use Rattle.fields.specs.Content.{read_over, field_read_of};
 
-use crate::{DecodeRefusal, FieldRead, Raw, Shape, shapes, texts};
+use crate::{DecodeRefusal, FieldRead, Shape, shapes, texts};
 use bits::{BitPos, Cursor, Moved, ReadU64};
 use descriptor::FieldDescriptor;
 
 // A number; 4 where it is strict and cut short.
-fn number(s: &[u8], strict: bool, f: FieldDescriptor, i: usize, early: bool, at: usize) -> FieldRead
+fn number(
+    s: &[u8],
+    strict: bool,
+    f: FieldDescriptor,
+    i: usize,
+    early: bool,
+    at: usize,
+) -> Result<FieldRead, DecodeRefusal>
     ensures { result ≡ read_over (taken_by (shape.Number strict) (payload_of s.now) i early f.width at) (shape.Number strict) f (payload_of s.now) at }
 {
     let width = f.width;
@@ -18,15 +25,15 @@ fn number(s: &[u8], strict: bool, f: FieldDescriptor, i: usize, early: bool, at:
     match c.read_u64(s, width) {
         ReadU64::Got { value, next: _ } => {
             let taken = width as usize;
-            FieldRead::Got {
+            Ok(FieldRead::Got {
                 bits: BitPos(taken),
-                raw: Raw::Number(value),
+                raw: Some(value),
                 value: numbers::scale_raw_field(value, f),
-            }
+            })
         }
         ReadU64::Refused(e) => {
             if strict {
-                return FieldRead::Refused(DecodeRefusal::InvalidDataLength { field: i });
+                return Err(DecodeRefusal::InvalidDataLength { field: i });
             }
             texts::refused(i, e)
         }
@@ -34,7 +41,13 @@ fn number(s: &[u8], strict: bool, f: FieldDescriptor, i: usize, early: bool, at:
 }
 
 // Bits that are skipped.
-fn gap(s: &[u8], f: FieldDescriptor, i: usize, early: bool, at: usize) -> FieldRead
+fn gap(
+    s: &[u8],
+    f: FieldDescriptor,
+    i: usize,
+    early: bool,
+    at: usize,
+) -> Result<FieldRead, DecodeRefusal>
     ensures { result ≡ read_over (taken_by shape.Gap (payload_of s.now) i early f.width at) shape.Gap f (payload_of s.now) at }
 {
     let width = f.width;
@@ -42,9 +55,9 @@ fn gap(s: &[u8], f: FieldDescriptor, i: usize, early: bool, at: usize) -> FieldR
     match c.advance(s, width) {
         Moved::To { next: _ } => {
             let taken = width as usize;
-            FieldRead::Skipped {
+            Ok(FieldRead::Skipped {
                 bits: BitPos(taken),
-            }
+            })
         }
         Moved::Refused(e) => texts::refused(i, e),
     }
@@ -58,7 +71,7 @@ pub fn read_field_raw_and_value(
     f: FieldDescriptor,
     i: usize,
     may_stop_early: bool,
-) -> FieldRead
+) -> Result<FieldRead, DecodeRefusal>
     ensures { result ≡ field_read_of (payload_of s.now) f i may_stop_early c.at.0 }
 {
     let at = c.at.0;

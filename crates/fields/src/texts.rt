@@ -6,7 +6,7 @@ ghost use Rattle.fields.specs.Taken.{bytes_room_lem, text_room_lem, fixed_bytes_
 ghost use Rattle.fields.specs.Content.{text_at_lem, text_read_lem, refused_of, read_over};
 ghost use Rattle.fields.specs.declared.Shape.TheVariants as shape;
 
-use crate::{DecodeRefusal, FieldRead, Raw};
+use crate::{DecodeRefusal, FieldRead};
 use bits::{BitPos, ByteCount, Cursor, ReadSlice, ReadU64, Room, least};
 use descriptor::{Encoding, FieldDescriptor, PgnBytes, PgnValue};
 
@@ -60,23 +60,23 @@ fn text_read(
     place: usize,
     n: usize,
     encoding: Encoding,
-) -> FieldRead
+) -> Result<FieldRead, DecodeRefusal>
     ensures { result ≡ text_read_lem room i taken place n encoding }
 {
     match room {
-        Room::Fits => FieldRead::Got {
+        Room::Fits => Ok(FieldRead::Got {
             bits: BitPos(taken),
-            raw: Raw::Absent,
+            raw: None,
             value: text_at(place, n, encoding),
-        },
+        }),
         Room::Refused(e) => refused(i, e),
     }
 }
 
-pub(crate) fn refused(i: usize, e: bits::BitRefusal) -> FieldRead
+pub(crate) fn refused(i: usize, e: bits::BitRefusal) -> Result<FieldRead, DecodeRefusal>
     ensures { result ≡ refused_of i e }
 {
-    FieldRead::Refused(DecodeRefusal::BitReaderError {
+    Err(DecodeRefusal::BitReaderError {
         field: i,
         refusal: e,
     })
@@ -98,7 +98,13 @@ fn fixed_bytes(s: &[u8], early: bool, at: usize, w: usize) -> usize
     size
 }
 
-pub(crate) fn fixed(s: &[u8], f: FieldDescriptor, i: usize, early: bool, at: usize) -> FieldRead
+pub(crate) fn fixed(
+    s: &[u8],
+    f: FieldDescriptor,
+    i: usize,
+    early: bool,
+    at: usize,
+) -> Result<FieldRead, DecodeRefusal>
     ensures { result ≡ read_over (taken_by shape.Fixed (payload_of s.now) i early f.width at) shape.Fixed f (payload_of s.now) at }
 {
     let w = f.width as usize;
@@ -107,7 +113,13 @@ pub(crate) fn fixed(s: &[u8], f: FieldDescriptor, i: usize, early: bool, at: usi
     text_read(room, i, 8 * n, at / 8, n, Encoding::Absent)
 }
 
-pub(crate) fn whole(s: &[u8], f: FieldDescriptor, i: usize, early: bool, at: usize) -> FieldRead
+pub(crate) fn whole(
+    s: &[u8],
+    f: FieldDescriptor,
+    i: usize,
+    early: bool,
+    at: usize,
+) -> Result<FieldRead, DecodeRefusal>
     ensures { result ≡ read_over (taken_by shape.Whole (payload_of s.now) i early f.width at) shape.Whole f (payload_of s.now) at }
 {
     let w = f.width as usize;
@@ -117,12 +129,18 @@ pub(crate) fn whole(s: &[u8], f: FieldDescriptor, i: usize, early: bool, at: usi
 }
 
 // A StringLau with its length byte.
-fn lau_text(s: &[u8], f: FieldDescriptor, i: usize, at: usize, len: usize) -> FieldRead
+fn lau_text(
+    s: &[u8],
+    f: FieldDescriptor,
+    i: usize,
+    at: usize,
+    len: usize,
+) -> Result<FieldRead, DecodeRefusal>
     requires { at ≤ 524288 }
     ensures { result ≡ read_over (lau_taken (payload_of s.now) i at len) shape.Lau f (payload_of s.now) at }
 {
     if tables::PAYLOAD_MAX < len {
-        return FieldRead::Refused(DecodeRefusal::InvalidDataLength { field: i });
+        return Err(DecodeRefusal::InvalidDataLength { field: i });
     }
     if len < 2 {
         return text_read(Room::Fits, i, 8, 0, 0, Encoding::Absent);
@@ -138,7 +156,13 @@ fn lau_text(s: &[u8], f: FieldDescriptor, i: usize, at: usize, len: usize) -> Fi
     }
 }
 
-pub(crate) fn lau(s: &[u8], f: FieldDescriptor, i: usize, early: bool, at: usize) -> FieldRead
+pub(crate) fn lau(
+    s: &[u8],
+    f: FieldDescriptor,
+    i: usize,
+    early: bool,
+    at: usize,
+) -> Result<FieldRead, DecodeRefusal>
     ensures { result ≡ read_over (taken_by shape.Lau (payload_of s.now) i early f.width at) shape.Lau f (payload_of s.now) at }
 {
     let c = Cursor { at: BitPos(at) };
@@ -166,19 +190,31 @@ fn closed_at(s: &[u8], at: usize, n: usize) -> usize
 }
 
 // A StringLz with its length byte.
-fn lz_text(s: &[u8], f: FieldDescriptor, i: usize, at: usize, len: usize) -> FieldRead
+fn lz_text(
+    s: &[u8],
+    f: FieldDescriptor,
+    i: usize,
+    at: usize,
+    len: usize,
+) -> Result<FieldRead, DecodeRefusal>
     requires { (at ≤ 524288) × (len ≡ (payload_of s.now).bits at 8) }
     ensures { result ≡ read_over (lz_taken (payload_of s.now) i at len) shape.Lz f (payload_of s.now) at }
 {
     if tables::PAYLOAD_MAX < len {
-        return FieldRead::Refused(DecodeRefusal::InvalidDataLength { field: i });
+        return Err(DecodeRefusal::InvalidDataLength { field: i });
     }
     let room = text_room(s, at + 8, len);
     let taken = closed_at(s, at, 8 + 8 * len);
     text_read(room, i, taken, at / 8 + 1, len, Encoding::Absent)
 }
 
-pub(crate) fn lz(s: &[u8], f: FieldDescriptor, i: usize, early: bool, at: usize) -> FieldRead
+pub(crate) fn lz(
+    s: &[u8],
+    f: FieldDescriptor,
+    i: usize,
+    early: bool,
+    at: usize,
+) -> Result<FieldRead, DecodeRefusal>
     ensures { result ≡ read_over (taken_by shape.Lz (payload_of s.now) i early f.width at) shape.Lz f (payload_of s.now) at }
 {
     let c = Cursor { at: BitPos(at) };

@@ -4,6 +4,7 @@ use mathlib.Core.List.{List, [], ◌∷◌, ◌++◌, flat_map}
 use Prim.Native.Nat.{ℕ, ◌+◌, ◌*◌, ◌≤◌, ◌<◌}
 use native.Mathlib.Omega.{arith}
 use lib.ListN.{length}
+use Rattle.std.specs.Prelude.{Option, Some, None}
 use Rattle.text.specs.Digits.{decimal_of, spaced}
 use Rattle.text.specs.Refusals.{refused_text}
 use Rattle.text.proofs.Sizes.{plus, decimal-size, hex-size, fixed-size, spaced-size, refused-size}
@@ -14,8 +15,6 @@ use Rattle.descriptor.specs.declared.PgnValue.TheVariants.{U64, U32, U16, U8, I6
 use Rattle.tables.specs.Table.{Table}
 use Rattle.walking.specs.declared.Element.{Element}
 use Rattle.walking.specs.declared.Element.TheVariants.{Outside, At}
-use Rattle.fields.specs.declared.Raw.{Raw}
-use Rattle.fields.specs.declared.Raw.TheVariants.{Absent, Number}
 use Rattle.fields.specs.declared.DecodeRefusal.{DecodeRefusal}
 use Rattle.fields.specs.Refusals.{number_of, carried_of}
 use Rattle.fields.specs.Payload.{Payload}
@@ -49,9 +48,9 @@ value-size (F64 x) = omega arith
 value-size (F32 x) = omega arith
 value-size (Bytes b) = plus (decimal_of b.start.0) (58 ∷ decimal_of b.len.0) 20 21 (decimal-size b.start.0).1 (omega (arith, (decimal-size b.len.0).1))
 
-raw-size : (r : Raw) (x : PgnValue) → length (raw_text r x) ≤ 41
-raw-size (Number n) x = omega (arith, (hex-size n).1)
-raw-size Absent x = value-size x
+raw-size : (r : Option ℕ) (x : PgnValue) → length (raw_text r x) ≤ 41
+raw-size (Some n) x = omega (arith, (hex-size n).1)
+raw-size None x = value-size x
 
 pub head-size : (r : Reading) → length (head_text r) ≤ 88
 head-size r =

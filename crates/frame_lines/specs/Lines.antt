@@ -1,5 +1,5 @@
 -- The lines that the printing program prints: document 01, the end of "Cases". Each ends in a newline.
-use Rattle.std.specs.Prelude.{ℕ, List, [], ◌∷◌, ◌++◌}
+use Rattle.std.specs.Prelude.{ℕ, List, [], ◌∷◌, ◌++◌, Option, Some, None}
 use Rattle.text.specs.Digits.{decimal_of, hex_of, fixed, spaced}
 use Rattle.text.specs.Refusals.{refused_text, malformed_text}
 use Rattle.descriptor.specs.declared.Availability.{Availability}
@@ -9,8 +9,6 @@ use Rattle.descriptor.specs.declared.PgnValue.{PgnValue}
 use Rattle.descriptor.specs.declared.PgnValue.TheVariants.{U64, U32, U16, U8, I64, I32, I16, I8, F64, F32, Bytes}
 use Rattle.walking.specs.declared.Element.{Element}
 use Rattle.walking.specs.declared.Element.TheVariants.{Outside, At}
-use Rattle.fields.specs.declared.Raw.{Raw}
-use Rattle.fields.specs.declared.Raw.TheVariants.{Absent, Number}
 use Rattle.fields.specs.declared.DecodeRefusal.{DecodeRefusal}
 use Rattle.fields.specs.Refusals.{number_of, carried_of}
 use Rattle.reading.specs.declared.Reading.{Reading}
@@ -49,9 +47,9 @@ value_text (F32 x) = 45 ∷ []
 value_text (Bytes b) = place_text b
 
 -- "Raws are hexadecimal [..]; a raw that is none prints place:length in decimal"
-abbrev pub raw_text : Raw → PgnValue → List ℕ
-raw_text (Number n) x = hex_of n
-raw_text Absent x = value_text x
+abbrev pub raw_text : Option ℕ → PgnValue → List ℕ
+raw_text (Some n) x = hex_of n
+raw_text None x = value_text x
 
 -- what stands before the raw: 'R', field, element, start, bits, availability
 abbrev pub head_text : Reading → List ℕ

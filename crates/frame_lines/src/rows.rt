@@ -3,7 +3,7 @@ ghost use Rattle.text.specs.Sheet.{Puts};
 ghost use Rattle.frame_lines.specs.Lines.{element_text, availability_text, place_text, value_text, raw_text, head_text, reading_line, frame_line, end_line, refusal_line, unknown_line};
 
 use descriptor::{Availability, PgnBytes, PgnValue};
-use fields::{DecodeRefusal, Raw};
+use fields::DecodeRefusal;
 use reading::Reading;
 use text::{put, put_decimal, put_fixed_hex, put_hex, put_number, put_refused, put_text};
 use walking::Element;
@@ -52,12 +52,12 @@ fn put_bytes_at(out: &mut [u8], at: usize, value: PgnValue) -> usize
 }
 
 // The raw in as few digits as it needs, or where the text or the bytes stand.
-fn put_raw(out: &mut [u8], at: usize, raw: Raw, value: PgnValue) -> usize
+fn put_raw(out: &mut [u8], at: usize, raw: Option<u64>, value: PgnValue) -> usize
     ensures { Puts out.old at (raw_text raw value) out.new result }
 {
     match raw {
-        Raw::Absent => put_bytes_at(out, at, value),
-        Raw::Number(n) => put_hex(out, at, n),
+        None => put_bytes_at(out, at, value),
+        Some(n) => put_hex(out, at, n),
     }
 }
 

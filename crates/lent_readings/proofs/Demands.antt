@@ -7,13 +7,13 @@ use lib.ListN.{length}
 use contract.Lifetimes.{Lfts}
 use denote.Triple.Entry.{Args, Res}
 use denote.Triple.Clauses.{AtExit}
+use Rattle.std.specs.Prelude.{Some}
 use Rattle.bits.specs.Bits.{written}
 use Rattle.bits.specs.declared.BitPos.{BitPos}
 use Rattle.tables.specs.Table.{Table, table_of}
 use Rattle.walking.specs.Runs.{Run}
 use Rattle.fields.specs.declared.DecodeRefusal.{DecodeRefusal}
 use Rattle.fields.specs.declared.DecodeRefusal.TheVariants.{NoRoom}
-use Rattle.fields.specs.declared.Raw.TheVariants as raw
 use Rattle.fields.specs.Payload.{payload_of}
 use Rattle.reading.specs.declared.Span.{Span}
 use Rattle.reading.specs.declared.Progress.{Progress}
@@ -110,7 +110,7 @@ pub record Alike (c c' : Call) (v : Span) (x : ℕ) : Type 0 where
   pub holds : out c' ≡ entries_of (before ++ new ∷ later) (was c')
   pub stood : span_in old ≡ v
   pub stands : span_in new ≡ v
-  pub raw : new.raw ≡ raw.Number (x % 2 ^ v.bits.0)
+  pub raw : new.raw ≡ Some (x % 2 ^ v.bits.0)
 
 -- whatever goes by a call's table, bytes received and the two lengths
 alike : {A : Type 0} (c c' : Call) (v : Span) (x : ℕ) → Changes c c' v x → (f : Table → List ℕ → ℕ → ℕ → A)

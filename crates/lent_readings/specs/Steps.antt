@@ -1,6 +1,6 @@
 -- One turn of a decode into a lent run: what the functions here say of each other. It is no part of document 01; that the turns come to a decode is
 -- proofs/Turns.antt.
-use Rattle.std.specs.Prelude.{ℕ, true, false, List, length, Result, Ok, Err}
+use Rattle.std.specs.Prelude.{ℕ, true, false, List, length, Result, Ok, Err, None}
 use Rattle.bits.specs.Bits.{pick}
 use Rattle.bits.specs.Calls.{bits}
 use Rattle.descriptor.specs.declared.Availability.TheVariants.{Available}
@@ -8,7 +8,6 @@ use Rattle.descriptor.specs.declared.PgnValue.TheVariants.{U8}
 use Rattle.tables.specs.Table.{Table}
 use Rattle.walking.specs.declared.Element.TheVariants.{Outside}
 use Rattle.fields.specs.declared.DecodeRefusal.{DecodeRefusal}
-use Rattle.fields.specs.declared.Raw.TheVariants.{Absent}
 use Rattle.fields.specs.Payload.{payload_of}
 use Rattle.reading.specs.declared.Reading.{Reading}
 use Rattle.reading.specs.declared.Walk.{Walk}
@@ -23,7 +22,7 @@ use Rattle.lent_readings.specs.declared.Step.{Step}
 
 -- what stands where there is no reading
 abbrev pub blank : Reading
-blank = record { field = 0; element = Outside; start = bits 0; bits = bits 0; raw = Absent; value = U8 0; availability = Available }
+blank = record { field = 0; element = Outside; start = bits 0; bits = bits 0; raw = None; value = U8 0; availability = Available }
 
 -- before the first turn
 abbrev pub fresh_step : Step

@@ -8,7 +8,7 @@ ghost use Rattle.lent_readings.specs.Clauses.{Turns};
 use crate::Step;
 use bits::BitPos;
 use descriptor::{Availability, PgnValue};
-use fields::{DecodeRefusal, Raw};
+use fields::DecodeRefusal;
 use reading::{Answer, Decoded, Next, Reading, Walk};
 use walking::Element;
 
@@ -21,7 +21,7 @@ fn no_reading() -> Reading
         element: Element::Outside,
         start: BitPos(0),
         bits: BitPos(0),
-        raw: Raw::Absent,
+        raw: None,
         value: PgnValue::U8(0),
         availability: Availability::Available,
     }

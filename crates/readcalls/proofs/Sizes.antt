@@ -7,7 +7,7 @@ use native.Mathlib.Omega.{arith}
 use borrow.Author.Tests.{leb-true}
 use lib.Dec.{eqb, leb}
 use lib.ListN.{length, drop, replicate, length-append, length-drop, length-replicate}
-use Rattle.std.specs.Prelude.{Result, Ok, Err}
+use Rattle.std.specs.Prelude.{Result, Ok, Err, Option, Some, None}
 use Rattle.bits.specs.Bits.{pick}
 use Rattle.hexadecimal.proofs.Inverse.{length_digits}
 use Rattle.text.specs.Digits.{spaced, bytes_text}
@@ -24,8 +24,6 @@ use Rattle.descriptor.specs.declared.PgnValue.TheVariants.{U64, U32, U16, U8, I6
 use Rattle.numbers.specs.Words.{word_of_lem}
 use Rattle.tables.specs.Table.{Table, table_of}
 use Rattle.fields.specs.declared.DecodeRefusal.{DecodeRefusal}
-use Rattle.fields.specs.declared.Raw.{Raw}
-use Rattle.fields.specs.declared.Raw.TheVariants as raw
 use Rattle.fields.specs.Payload.{payload_of}
 use Rattle.reading.specs.declared.Reading.{Reading}
 use Rattle.reading.specs.declared.Decoded.{Decoded}
@@ -43,9 +41,9 @@ use Rattle.readcalls.proofs.Touching.{touched-size}
 
 -- ## A reading
 
-raw-size : (r : Raw) → length (raw_text r) ≤ 20
-raw-size (raw.Number n) = (hex-size n).1
-raw-size raw.Absent = omega arith
+raw-size : (r : Option ℕ) → length (raw_text r) ≤ 20
+raw-size (Some n) = (hex-size n).1
+raw-size None = omega arith
 
 kind-size : (x : PgnValue) → length (kind_text x) ≤ 6
 kind-size (U64 x) = omega arith

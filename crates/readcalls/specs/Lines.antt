@@ -1,5 +1,5 @@
 -- The lines of an answer: src/main.rt, "R FIELD ELEMENT START BITS A|N RAW KIND VALUE [ENCODING]", "E END COUNT", "D BYTES". Each ends in a newline.
-use Rattle.std.specs.Prelude.{ℕ, eqb, length}
+use Rattle.std.specs.Prelude.{ℕ, eqb, length, Option, Some, None}
 use mathlib.Core.List.{List, [], ◌∷◌, ◌++◌, flat_map}
 use Rattle.bits.specs.Bits.{pick}
 use Rattle.hexadecimal.specs.Digits.{digits_of}
@@ -10,8 +10,6 @@ use Rattle.descriptor.specs.declared.PgnValue.{PgnValue}
 use Rattle.descriptor.specs.declared.PgnValue.TheVariants.{U64, U32, U16, U8, I64, I32, I16, I8, F64, F32, Bytes}
 use Rattle.numbers.specs.Words.{word_of_lem}
 use Rattle.tables.specs.Table.{Table}
-use Rattle.fields.specs.declared.Raw.{Raw}
-use Rattle.fields.specs.declared.Raw.TheVariants as raw
 use Rattle.reading.specs.declared.Reading.{Reading}
 use Rattle.reading.specs.declared.Decoded.{Decoded}
 use Rattle.reading.specs.declared.Decoded.TheVariants as decoded
@@ -22,9 +20,9 @@ use Rattle.frame_lines.specs.Lines.{newline, head_text, place_text, refusal_line
 -- ## A reading
 
 -- "RAW [..] '-' where there is none"
-abbrev pub raw_text : Raw → List ℕ
-raw_text (raw.Number n) = hex_of n
-raw_text raw.Absent = 45 ∷ []
+abbrev pub raw_text : Option ℕ → List ℕ
+raw_text (Some n) = hex_of n
+raw_text None = 45 ∷ []
 
 -- KIND, after a space
 abbrev pub kind_text : PgnValue → List ℕ

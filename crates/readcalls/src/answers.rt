@@ -6,7 +6,6 @@ ghost use Rattle.readcalls.specs.Lines.{raw_text, kind_text, encoding_text, cont
 
 use columns::{part, word};
 use descriptor::{Encoding, PgnBytes, PgnValue};
-use fields::Raw;
 use frame_lines::put_head;
 use reading::{Decoded, Reading};
 use text::{put, put_bytes, put_hex, put_number, put_pairs, put_text, put_value};
@@ -14,12 +13,12 @@ use text::{put, put_bytes, put_hex, put_number, put_pairs, put_text, put_value};
 // What the padding run holds where no call has written.
 pub(crate) const UNTOUCHED: u8 = 0xa5;
 
-fn put_raw(out: &mut [u8], at: usize, raw: Raw) -> usize
+fn put_raw(out: &mut [u8], at: usize, raw: Option<u64>) -> usize
     ensures { Puts out.old at (raw_text raw) out.new result }
 {
     match raw {
-        Raw::Number(n) => put_hex(out, at, n),
-        Raw::Absent => put(out, at, b'-'),
+        Some(n) => put_hex(out, at, n),
+        None => put(out, at, b'-'),
     }
 }
 

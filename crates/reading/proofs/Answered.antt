@@ -6,7 +6,7 @@ use mathlib.Core.List.{List, ◌∷◌, ◌++◌}
 use Prim.Native.Nat.{ℕ, ◌*◌, ◌%◌, ◌^◌, ◌≤◌, ◌<◌}
 use native.Mathlib.Omega.{arith}
 use lib.ListN.{length}
-use Rattle.std.specs.Prelude.{Result, Ok, Err}
+use Rattle.std.specs.Prelude.{Result, Ok, Err, Some}
 use Rattle.bits.specs.Bits.{written}
 use Rattle.bits.specs.declared.BitPos.{BitPos}
 use Rattle.bits.specs.declared.Room.{Room}
@@ -20,10 +20,8 @@ use Rattle.tables.specs.declared.Checked.TheVariants.{Accepted}
 use Rattle.walking.specs.Runs.{Run, ran, stopped}
 use Rattle.fields.specs.declared.DecodeRefusal.{DecodeRefusal}
 use Rattle.fields.specs.declared.DecodeRefusal.TheVariants.{NoRoom}
-use Rattle.fields.specs.declared.Raw.TheVariants as raw
 use Rattle.fields.specs.declared.Shape.{Shape}
 use Rattle.fields.specs.declared.Shape.TheVariants.{Number}
-use Rattle.fields.specs.declared.Taken.TheVariants.{Took}
 use Rattle.fields.specs.Payload.{Payload, payload_of}
 use Rattle.fields.specs.Shapes.{shape_of}
 use Rattle.fields.specs.Taken.{short_of, room_at, taken_by}
@@ -79,10 +77,10 @@ module _ (t : Table) (received : List ℕ) (padded room : ℕ) where
 -- ## Two runs
 
 -- a number that was read can be written where it stands
-number_fits : (p : Payload) (i : ℕ) (early : Bool) (w at n : ℕ) (sh : Shape) (strict : Bool) → sh ≡ Number strict → taken_by sh p i early w at ≡ Took n → Fitting p.size at n width_max
+number_fits : (p : Payload) (i : ℕ) (early : Bool) (w at n : ℕ) (sh : Shape) (strict : Bool) → sh ≡ Number strict → taken_by sh p i early w at ≡ Ok n → Fitting p.size at n width_max
 number_fits p i early w at n sh strict q e = go strict (room_at p at w) refl (ap (λ (x : Shape). taken_by x p i early w at) (sym q) ∙ e)
   where
-    go : (b : Bool) (r : Room) → room_at p at w ≡ r → short_of b i r (Took w) ≡ Took n → Fitting p.size at n width_max
+    go : (b : Bool) (r : Room) → room_at p at w ≡ r → short_of b i r (Ok w) ≡ Ok n → Fitting p.size at n width_max
     go true room.Fits h g = let y : w ≡ n = cc in subst (λ (m : ℕ). Fitting p.size at m width_max) y (fitting p.size at w width_max h)
     go false room.Fits h g = let y : w ≡ n = cc in subst (λ (m : ℕ). Fitting p.size at m width_max) y (fitting p.size at w width_max h)
     go true (room.Refused x) h g = let z : ◌≡◌ {A = ℕ} 0 1 = cc in absurd (omega arith)
@@ -104,7 +102,7 @@ pub record TwoRuns (t : Table) (received received' : List ℕ) (padded room : �
   pub handed' : (turns : ℕ) → t.count * 20000 < turns → handed_in t (payload_of (working_of t received')) room turns start_of ≡ before ++ new ∷ later
   pub stood : span_in old ≡ v
   pub stands : span_in new ≡ v
-  pub raw : new.raw ≡ raw.Number (x % 2 ^ v.bits.0)
+  pub raw : new.raw ≡ Some (x % 2 ^ v.bits.0)
 
 pub two_runs : (t : Table) (received : List ℕ) (padded room : ℕ) (us : List Span) (v : Span) (ws : List Span) (s : Progress)
     → Decodes t received padded room (us ++ v ∷ ws) s → Free t received v → (x : ℕ) → TwoRuns t received (written received v.start.0 v.bits.0 x) padded room v x

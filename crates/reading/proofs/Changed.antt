@@ -6,6 +6,7 @@ use mathlib.Core.List.{List, [], ◌∷◌, ◌++◌}
 use Prim.Native.Nat.{ℕ, zero, suc, ◌+◌, ◌%◌, ◌^◌, ◌≤◌, ◌<◌, min}
 use native.Mathlib.Omega.{arith}
 use borrow.Author.Tests.{ne_eqb}
+use Rattle.std.specs.Prelude.{Option, Some, None, Result, Ok}
 use Rattle.descriptor.specs.declared.FieldDescriptor.{FieldDescriptor}
 use Rattle.tables.specs.Table.{Table}
 use Rattle.tables.specs.Check.{check_of, set_max}
@@ -17,12 +18,8 @@ use Rattle.walking.specs.Walk.{One, hit}
 use Rattle.walking.proofs.Visits.{All, all_left, all_right, all_append, all_map, all-zip, ending-before}
 use Rattle.walking.proofs.Alike.{runs-alike}
 use Rattle.fields.specs.declared.DecodeRefusal.{DecodeRefusal}
-use Rattle.fields.specs.declared.Raw.{Raw}
-use Rattle.fields.specs.declared.Raw.TheVariants as raw
 use Rattle.fields.specs.declared.Shape.{Shape}
 use Rattle.fields.specs.declared.Shape.TheVariants.{Number, Gap, Fixed, Whole, Lau, Lz}
-use Rattle.fields.specs.declared.Taken.{Taken}
-use Rattle.fields.specs.declared.Taken.TheVariants.{Took}
 use Rattle.fields.specs.Payload.{Payload}
 use Rattle.fields.specs.Shapes.{shape_of}
 use Rattle.fields.specs.Taken.{taken_of}
@@ -51,9 +48,9 @@ unfolding noted_to
 uncounted-to t i r cs h zero l = refl
 uncounted-to t i r cs h (suc k) l = rw (ne_eqb (t.set k).counter i (h k (omega arith))) (uncounted-to t i r cs h k (omega arith))
 
-uncounted : (t : Table) (e : Element) (i : ℕ) (r : Raw) (cs : List ℕ) → Uncounted t i → noted_by_lem t e i r cs ≡ cs
-uncounted t Outside i (raw.Number r) cs h = uncounted-to t i r cs h (min t.sets set_max) (omega arith)
-uncounted t Outside i raw.Absent cs h = refl
+uncounted : (t : Table) (e : Element) (i : ℕ) (r : Option ℕ) (cs : List ℕ) → Uncounted t i → noted_by_lem t e i r cs ≡ cs
+uncounted t Outside i (Some r) cs h = uncounted-to t i r cs h (min t.sets set_max) (omega arith)
+uncounted t Outside i None cs h = refl
 uncounted t (At e) i r cs h = refl
 
 -- ## Two payloads of one length
@@ -71,12 +68,12 @@ module _ (t : Table) (room m : ℕ) (b b' : ℕ → ℕ → ℕ) where
     same : Agree b b' v.start.0 (past v + look_of (shape_of (t.field v.field))) → Asks v
 
   -- it takes the same bits ..
-  taken-asked : (i : ℕ) (e : Element) (last : Bool) (at n : ℕ) → Asks (span_at i e at n) → taken_of p (t.field i) i last at ≡ Took n → taken_of p' (t.field i) i last at ≡ Took n
+  taken-asked : (i : ℕ) (e : Element) (last : Bool) (at n : ℕ) → Asks (span_at i e at n) → taken_of p (t.field i) i last at ≡ Ok n → taken_of p' (t.field i) i last at ≡ Ok n
   taken-asked i e last at n (free strict q h) o = number-taken m b b' i last (t.field i).width at n (shape_of (t.field i)) strict q o
   taken-asked i e last at n (same a) o = taken-local m b b' i last (t.field i).width at n (shape_of (t.field i)) o a
 
   raw-local : (sh : Shape) (at n : ℕ) → b at n ≡ b' at n → raw_in sh p at n ≡ raw_in sh p' at n
-  raw-local (Number strict) at n h = ap raw.Number h
+  raw-local (Number strict) at n h = ap Some h
   raw-local Gap at n h = refl
   raw-local Fixed at n h = refl
   raw-local Whole at n h = refl
@@ -87,12 +84,12 @@ module _ (t : Table) (room m : ℕ) (b b' : ℕ → ℕ → ℕ) where
   noted-asked : (i : ℕ) (e : Element) (at n : ℕ) (cs : List ℕ) → Asks (span_at i e at n)
       → noted_by_lem t e i (raw_in (shape_of (t.field i)) p at n) cs ≡ noted_by_lem t e i (raw_in (shape_of (t.field i)) p' at n) cs
   noted-asked i e at n cs (free strict q h) = uncounted t e i _ cs h ∙ sym (uncounted t e i _ cs h)
-  noted-asked i e at n cs (same a) = ap (λ (r : Raw). noted_by_lem t e i r cs) (raw-local (shape_of (t.field i)) at n (a at n (omega arith) (omega arith)))
+  noted-asked i e at n cs (same a) = ap (λ (r : Option ℕ). noted_by_lem t e i r cs) (raw-local (shape_of (t.field i)) at n (a at n (omega arith) (omega arith)))
 
   -- the walk goes on alike where the counters do
   settled-alike : (f : FieldDescriptor) (i : ℕ) (e : Element) (s : Progress) (n : ℕ) (sh : Shape)
       → noted_by_lem t e i (raw_in sh p s.at.0 n) s.counters ≡ noted_by_lem t e i (raw_in sh p' s.at.0 n) s.counters
-      → settled t room i e s (read_as sh f p s.at.0 n) ≡ settled t room i e s (read_as sh f p' s.at.0 n)
+      → settled t room i e s (Ok (read_as sh f p s.at.0 n)) ≡ settled t room i e s (Ok (read_as sh f p' s.at.0 n))
   settled-alike f i e s n (Number strict) h = rw h
   settled-alike f i e s n Gap h = refl
   settled-alike f i e s n Fixed h = refl
@@ -107,7 +104,7 @@ module _ (t : Table) (room m : ℕ) (b b' : ℕ → ℕ → ℕ) where
       let f = t.field i in
       let n = v.bits.0 in
       let asks : Asks (span_at i e s.at.0 n) = subst Asks q.span a in
-      let go : Payload → Taken → One Span Progress DecodeRefusal = λ (y : Payload) (o : Taken). settled t room i e s (read_over o (shape_of f) f y s.at.0) in
+      let go : Payload → Result ℕ DecodeRefusal → One Span Progress DecodeRefusal = λ (y : Payload) (o : Result ℕ DecodeRefusal). settled t room i e s (read_over o (shape_of f) f y s.at.0) in
       ap (go p') (taken-asked i e last s.at.0 n asks q.took)
       ∙ sym (settled-alike f i e s n (shape_of f) (noted-asked i e s.at.0 n s.counters asks))
       ∙ sym (ap (go p) q.took) ∙ h
@@ -178,5 +175,5 @@ module _ (t : Table) (room m : ℕ) (b b' : ℕ → ℕ → ℕ) where
       decodes = still-decodes;
       were = around p;
       are = others;
-      new = ap (λ (sh : Shape). raw_in sh p' v.start.0 v.bits.0) number ∙ ap raw.Number h;
+      new = ap (λ (sh : Shape). raw_in sh p' v.start.0 v.bits.0) number ∙ ap Some h;
     }

@@ -4,18 +4,17 @@ use mathlib.Core.Bool.{Bool, true, false}
 use Prim.Native.Nat.{ℕ, ◌+◌, ◌-◌, ◌*◌, ◌/◌, ◌≤◌}
 use native.Mathlib.Omega.{arith}
 use lib.Dec.{eqb, ltb}
+use Rattle.std.specs.Prelude.{Result, Ok, Err}
 use Rattle.bits.specs.Bits.{pick}
 use Rattle.bits.specs.declared.BitRefusal.{BitRefusal}
 use Rattle.bits.specs.declared.Room.{Room}
 use Rattle.bits.specs.declared.Room.TheVariants as room
 use Rattle.bits.proofs.Rooms.{fitting}
 use Rattle.descriptor.specs.declared.FieldDescriptor.{FieldDescriptor}
+use Rattle.fields.specs.declared.DecodeRefusal.{DecodeRefusal}
 use Rattle.fields.specs.declared.DecodeRefusal.TheVariants.{BitReaderError, InvalidDataLength, NoRoom}
 use Rattle.fields.specs.declared.Shape.{Shape}
 use Rattle.fields.specs.declared.Shape.TheVariants.{Number, Gap, Fixed, Whole, Lau, Lz}
-use Rattle.fields.specs.declared.Taken.{Taken}
-use Rattle.fields.specs.declared.Taken.TheVariants.{Took, Refused}
-use Rattle.fields.specs.declared.FieldRead.TheVariants as read
 use Rattle.fields.specs.Payload.{Payload}
 use Rattle.fields.specs.Shapes.{shape_of}
 use Rattle.fields.specs.Taken.{if_room_lem, short_of, room_at, bytes_room_lem, text_room_lem, fixed_bytes_lem, lau_taken, closed_by, lz_taken, taken_by, taken_of}
@@ -23,22 +22,22 @@ use Rattle.fields.specs.Content.{read_over, field_read_of}
 use Rattle.tables.specs.Check.{payload_max}
 
 -- m bits or more, or a refusal of a field
-pub data Least (m : ℕ) : Taken → Type 0 where
-  least : {n : ℕ} → m ≤ n → Least m (Took n)
-  bit-refused : {i : ℕ} {e : BitRefusal} → Least m (Refused (BitReaderError i e))
-  too_short : {i : ℕ} → Least m (Refused (InvalidDataLength i))
+pub data Least (m : ℕ) : Result ℕ DecodeRefusal → Type 0 where
+  least : {n : ℕ} → m ≤ n → Least m (Ok n)
+  bit-refused : {i : ℕ} {e : BitRefusal} → Least m (Err (BitReaderError i e))
+  too_short : {i : ℕ} → Least m (Err (InvalidDataLength i))
 
-if-room : {m : ℕ} (r : Room) (i : ℕ) (later : Taken) → (r ≡ room.Fits → Least m later) → Least m (if_room_lem r i later)
+if-room : {m : ℕ} (r : Room) (i : ℕ) (later : Result ℕ DecodeRefusal) → (r ≡ room.Fits → Least m later) → Least m (if_room_lem r i later)
 if-room room.Fits i later h = h refl
 if-room (room.Refused e) i later h = bit-refused
 
-short-of : {m : ℕ} (strict : Bool) (i : ℕ) (r : Room) (later : Taken) → (r ≡ room.Fits → Least m later) → Least m (short_of strict i r later)
+short-of : {m : ℕ} (strict : Bool) (i : ℕ) (r : Room) (later : Result ℕ DecodeRefusal) → (r ≡ room.Fits → Least m later) → Least m (short_of strict i r later)
 short-of true i room.Fits later h = h refl
 short-of false i room.Fits later h = h refl
 short-of true i (room.Refused e) later h = too_short
 short-of false i (room.Refused e) later h = bit-refused
 
-either : {m : ℕ} (b : Bool) (x y : Taken) → Least m x → Least m y → Least m (pick b x y)
+either : {m : ℕ} (b : Bool) (x y : Result ℕ DecodeRefusal) → Least m x → Least m y → Least m (pick b x y)
 either true x y h k = h
 either false x y h k = k
 
@@ -52,7 +51,7 @@ least_of Lau p early w at = 8
 least_of Lz p early w at = 8 + 8 * p.bits at 8
 
 module _ (p : Payload) (at i : ℕ) where
-  some : (n : ℕ) → room_at p at n ≡ room.Fits → Least 1 (Took n)
+  some : (n : ℕ) → room_at p at n ≡ room.Fits → Least 1 (Ok n)
   some n h = least (fitting p.size at n 64 h).some
 
   lau-least : (len : ℕ) → Least 8 (lau_taken p i at len)
@@ -75,34 +74,34 @@ module _ (p : Payload) (at i : ℕ) where
       (if-room (text_room_lem p (at + 8) len) i _ (λ h. least (closed-least (8 + 8 * len) (room_at p (at + (8 + 8 * len)) 8) (p.bits (at + (8 + 8 * len)) 8))))
 
   pub least-taken : (sh : Shape) (early : Bool) (w : ℕ) → Least (least_of sh p early w at) (taken_by sh p i early w at)
-  least-taken (Number strict) early w = short-of strict i (room_at p at w) (Took w) (some w)
-  least-taken Gap early w = if-room (room_at p at w) i (Took w) (some w)
+  least-taken (Number strict) early w = short-of strict i (room_at p at w) (Ok w) (some w)
+  least-taken Gap early w = if-room (room_at p at w) i (Ok w) (some w)
   least-taken Fixed early w = if-room (bytes_room_lem p at (fixed_bytes_lem p early at w)) i _ (λ h. least (omega arith))
   least-taken Whole early w = if-room (bytes_room_lem p at (w / 8)) i _ (λ h. least (omega arith))
   least-taken Lau early w = if-room (room_at p at 8) i _ (λ h. lau-least (p.bits at 8))
   least-taken Lz early w = if-room (room_at p at 8) i _ (λ h. lz-least (p.bits at 8))
 
-  took-least : {m n : ℕ} → Least m (Took n) → m ≤ n
+  took-least : {m n : ℕ} → Least m (Ok n) → m ≤ n
   took-least (least h) = h
 
   -- of a field that is taken
-  pub least-took : (sh : Shape) (early : Bool) (w n : ℕ) → taken_by sh p i early w at ≡ Took n → least_of sh p early w at ≤ n
+  pub least-took : (sh : Shape) (early : Bool) (w n : ℕ) → taken_by sh p i early w at ≡ Ok n → least_of sh p early w at ≤ n
   least-took sh early w n h = took-least (subst (Least (least_of sh p early w at)) h (least-taken sh early w))
 
-never : {m : ℕ} {o : Taken} (j : ℕ) → Least m o → o ≡ Refused (NoRoom j) → ⊥
+never : {m : ℕ} {o : Result ℕ DecodeRefusal} (j : ℕ) → Least m o → o ≡ Err (NoRoom j) → ⊥
 never j (least h) e = let z : ◌≡◌ {A = ℕ} 0 1 = cc in omega arith
 never j bit-refused e = let z : ◌≡◌ {A = ℕ} 0 1 = cc in omega arith
 never j too_short e = let z : ◌≡◌ {A = ℕ} 0 1 = cc in omega arith
 
 -- no field says that there is no room for its reading
-pub no_room : (p : Payload) (f : FieldDescriptor) (i : ℕ) (early : Bool) (at j : ℕ) → field_read_of p f i early at ≡ read.Refused (NoRoom j) → ⊥
+pub no_room : (p : Payload) (f : FieldDescriptor) (i : ℕ) (early : Bool) (at j : ℕ) → field_read_of p f i early at ≡ Err (NoRoom j) → ⊥
 no_room p f i early at j h = go (shape_of f) (taken_of p f i early at) h (least-taken p at i (shape_of f) early f.width)
   where
-    go : (sh : Shape) {m : ℕ} (o : Taken) → read_over o sh f p at ≡ read.Refused (NoRoom j) → Least m o → ⊥
-    go sh (Refused e) q l = let z : e ≡ NoRoom j = cc in never j l (ap Refused z)
-    go (Number b) (Took n) q l = let z : ◌≡◌ {A = ℕ} 0 1 = cc in omega arith
-    go Gap (Took n) q l = let z : ◌≡◌ {A = ℕ} 0 1 = cc in omega arith
-    go Fixed (Took n) q l = let z : ◌≡◌ {A = ℕ} 0 1 = cc in omega arith
-    go Whole (Took n) q l = let z : ◌≡◌ {A = ℕ} 0 1 = cc in omega arith
-    go Lau (Took n) q l = let z : ◌≡◌ {A = ℕ} 0 1 = cc in omega arith
-    go Lz (Took n) q l = let z : ◌≡◌ {A = ℕ} 0 1 = cc in omega arith
+    go : (sh : Shape) {m : ℕ} (o : Result ℕ DecodeRefusal) → read_over o sh f p at ≡ Err (NoRoom j) → Least m o → ⊥
+    go sh (Err e) q l = let z : e ≡ NoRoom j = cc in never j l (ap Err z)
+    go (Number b) (Ok n) q l = cc
+    go Gap (Ok n) q l = cc
+    go Fixed (Ok n) q l = cc
+    go Whole (Ok n) q l = cc
+    go Lau (Ok n) q l = cc
+    go Lz (Ok n) q l = cc

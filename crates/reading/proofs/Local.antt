@@ -5,6 +5,7 @@ use Prim.Native.Nat.{ℕ, ◌+◌, ◌-◌, ◌*◌, ◌/◌, ◌%◌, ◌≤◌
 use native.Mathlib.Omega.{arith}
 use lib.Dec.{eqb, ltb}
 use borrow.Author.Tests.{eqb-false, ltb-false}
+use Rattle.std.specs.Prelude.{Some, Result, Ok}
 use Rattle.bits.specs.Bits.{pick}
 use Rattle.bits.specs.declared.Room.{Room}
 use Rattle.bits.specs.declared.Room.TheVariants as room
@@ -12,11 +13,9 @@ use Rattle.bits.proofs.Rooms.{whole}
 use Rattle.descriptor.specs.declared.FieldDescriptor.{FieldDescriptor}
 use Rattle.descriptor.specs.declared.Encoding.TheVariants as encoding
 use Rattle.tables.specs.Table.{Table}
-use Rattle.fields.specs.declared.Raw.TheVariants as raw
+use Rattle.fields.specs.declared.DecodeRefusal.{DecodeRefusal}
 use Rattle.fields.specs.declared.Shape.{Shape}
 use Rattle.fields.specs.declared.Shape.TheVariants.{Number, Gap, Fixed, Whole, Lau, Lz}
-use Rattle.fields.specs.declared.Taken.{Taken}
-use Rattle.fields.specs.declared.Taken.TheVariants.{Took}
 use Rattle.fields.specs.Payload.{Payload}
 use Rattle.fields.specs.Shapes.{shape_of}
 use Rattle.fields.specs.Taken.{if_room_lem, if_length, room_at, text_room_lem, lau_taken, closed_by, taken_by}
@@ -40,7 +39,7 @@ abbrev pub Agree : (ℕ → ℕ → ℕ) → (ℕ → ℕ → ℕ) → ℕ → �
 Agree b b' lo hi = (at n : ℕ) → lo ≤ at → at + n ≤ hi → b at n ≡ b' at n
 
 -- a field that is taken had room
-fits : (r : Room) (i : ℕ) (later : Taken) (n : ℕ) → if_room_lem r i later ≡ Took n → r ≡ room.Fits
+fits : (r : Room) (i : ℕ) (later : Result ℕ DecodeRefusal) (n : ℕ) → if_room_lem r i later ≡ Ok n → r ≡ room.Fits
 fits room.Fits i later n h = refl
 fits (room.Refused e) i later n h = let z : ◌≡◌ {A = ℕ} 0 1 = cc in absurd (omega arith)
 
@@ -53,16 +52,16 @@ module _ (m : ℕ) (b b' : ℕ → ℕ → ℕ) where
 
   module _ (i : ℕ) (early : Bool) (w at n : ℕ) where
     -- a StringLau by its length byte
-    lau-local : taken_by Lau p i early w at ≡ Took n → Agree b b' at (at + n) → taken_by Lau p' i early w at ≡ Took n
+    lau-local : taken_by Lau p i early w at ≡ Ok n → Agree b b' at (at + n) → taken_by Lau p' i early w at ≡ Ok n
     lau-local e a =
         let l = least-took p at i Lau early w n e in
         ap (λ (len : ℕ). if_room_lem (room_at p at 8) i (lau_taken p i at len)) (sym (a at 8 (omega arith) (omega arith))) ∙ e
 
     -- by the length byte and the byte after the text
-    abbrev lz_by : ℕ → ℕ → Taken
-    lz_by len next = if_room_lem (room_at p at 8) i (if_length i len (if_room_lem (text_room_lem p (at + 8) len) i (Took (closed_by (room_at p (at + (8 + 8 * len)) 8) next (8 + 8 * len)))))
+    abbrev lz_by : ℕ → ℕ → Result ℕ DecodeRefusal
+    lz_by len next = if_room_lem (room_at p at 8) i (if_length i len (if_room_lem (text_room_lem p (at + 8) len) i (Ok (closed_by (room_at p (at + (8 + 8 * len)) 8) next (8 + 8 * len)))))
 
-    lz-local : taken_by Lz p i early w at ≡ Took n → Agree b b' at (at + n + 8) → taken_by Lz p' i early w at ≡ Took n
+    lz-local : taken_by Lz p i early w at ≡ Ok n → Agree b b' at (at + n + 8) → taken_by Lz p' i early w at ≡ Ok n
     lz-local e a =
         let l = least-took p at i Lz early w n e in
         ap (λ (len : ℕ). lz_by len (b' (at + (8 + 8 * len)) 8)) (sym (a at 8 (omega arith) (omega arith)))
@@ -73,7 +72,7 @@ module _ (m : ℕ) (b b' : ℕ → ℕ → ℕ) where
     nothing-past a at₁ n₁ l u = a at₁ n₁ l (omega arith)
 
     -- a field takes the same bits in both
-    pub taken-local : (sh : Shape) → taken_by sh p i early w at ≡ Took n → Agree b b' at (at + n + look_of sh) → taken_by sh p' i early w at ≡ Took n
+    pub taken-local : (sh : Shape) → taken_by sh p i early w at ≡ Ok n → Agree b b' at (at + n + look_of sh) → taken_by sh p' i early w at ≡ Ok n
     taken-local (Number strict) e a = e
     taken-local Gap e a = e
     taken-local Fixed e a = e
@@ -82,7 +81,7 @@ module _ (m : ℕ) (b b' : ℕ → ℕ → ℕ) where
     taken-local Lz e a = lz-local e a
 
     -- a number asks nothing of the bits
-    pub number-taken : (sh : Shape) (strict : Bool) → sh ≡ Number strict → taken_by sh p i early w at ≡ Took n → taken_by sh p' i early w at ≡ Took n
+    pub number-taken : (sh : Shape) (strict : Bool) → sh ≡ Number strict → taken_by sh p i early w at ≡ Ok n → taken_by sh p' i early w at ≡ Ok n
     number-taken (Number strict) x q e = e
     number-taken Gap x q e = e
     number-taken Fixed x q e = e
@@ -114,10 +113,10 @@ module _ (m : ℕ) (b b' : ℕ → ℕ → ℕ) where
         go true r = refl
         go false r = let z : n / 8 ≡ 0 → ⊥ = eqb-false (n / 8) 0 r in ap (λ (x : ℕ). unless (ends x)) (a (8 * (at / 8)) 8 (omega arith) (omega arith))
 
-    content-local : (sh : Shape) (f : FieldDescriptor) → taken_by sh p i early w at ≡ Took n → Agree b b' at (at + n) → Same sh f
+    content-local : (sh : Shape) (f : FieldDescriptor) → taken_by sh p i early w at ≡ Ok n → Agree b b' at (at + n) → Same sh f
     content-local (Number strict) f e a =
         let q = a at n (omega arith) (omega arith) in
-        (ap raw.Number q, ap (λ (x : ℕ). value_in (Number strict) f (record { size = m; bits = λ (_ _ : ℕ). x }) at n) q, refl)
+        (ap Some q, ap (λ (x : ℕ). value_in (Number strict) f (record { size = m; bits = λ (_ _ : ℕ). x }) at n) q, refl)
     content-local Gap f e a = (refl, refl, refl)
     content-local Fixed f e a = (refl, refl, fixed-local (whole m at _ (fits _ i _ n e)).aligned a)
     content-local Whole f e a = (refl, refl, refl)

@@ -6,7 +6,7 @@ use Prim.Native.Nat.{ℕ, zero, suc, ◌+◌, ◌*◌, ◌≤◌, ◌<◌}
 use native.Mathlib.Omega.{arith}
 use lib.ListN.{length, length-append}
 use lib.Dec.{ltb}
-use Rattle.std.specs.Prelude.{Result, Ok}
+use Rattle.std.specs.Prelude.{Result, Ok, Err}
 use Rattle.bits.specs.Bits.{pick}
 use Rattle.tables.specs.Table.{Table}
 use Rattle.tables.specs.Check.{check_of}
@@ -111,22 +111,22 @@ module _ (t : Table) (p : Payload) (room : ℕ) where
   hit-hit : (v w : Span) (z y : Progress) → ◌≡◌ {A = One Span Progress DecodeRefusal} (hit w y) (hit v z) → (w ≡ v) × (y ≡ z)
   hit-hit v w z y h = (cc, cc)
 
-  makes-by : (i : ℕ) (e : Element) (last : Bool) (s : Progress) (v : Span) (z : Progress) (r : FieldRead)
+  makes-by : (i : ℕ) (e : Element) (last : Bool) (s : Progress) (v : Span) (z : Progress) (r : Result FieldRead DecodeRefusal)
       → field_read_of p (t.field i) i last s.at.0 ≡ r → settled t room i e s r ≡ hit v z → Makes s v z
-  makes-by i e last s v z (read.Got n raw x) q h =
+  makes-by i e last s v z (Ok (read.Got n raw x)) q h =
       let w : Span = span_at i e s.at.0 n.0 in
       let y : Progress = progress_at (s.at.0 + n.0) (s.made + 1) (noted_by_lem t e i raw s.counters) in
       let c = checked-hit (ltb s.made room) (NoRoom i) v w z y h in
       let one : length (readings t p (v ∷ [])) ≡ 1 = subst (λ (u : Span). length (readings t p (u ∷ [])) ≡ 1) c.0 (one_kept w (told (t.field i) p s.at.0 n i last raw x q).kept) in
       sym (ap (λ (u : Progress). u.made) c.1) ∙ ap (λ (m : ℕ). s.made + m) (sym one)
-  makes-by i e last s v z (read.Skipped n) q h =
+  makes-by i e last s v z (Ok (read.Skipped n)) q h =
       let w : Span = span_at i e s.at.0 n.0 in
       let y : Progress = progress_at (s.at.0 + n.0) s.made s.counters in
       let c = hit-hit v w z y h in
       let none : length (readings t p (v ∷ [])) ≡ 0 = subst (λ (u : Span). length (readings t p (u ∷ [])) ≡ 0) c.0 (none_kept w (gone (t.field i) p s.at.0 n i last q).kept) in
       let more : s.made ≡ s.made + 0 = omega arith in
       sym (ap (λ (u : Progress). u.made) c.1) ∙ more ∙ ap (λ (m : ℕ). s.made + m) (sym none)
-  makes-by i e last s v z (read.Refused f) q h = let k : ◌≡◌ {A = ℕ} 0 1 = cc in absurd (omega arith)
+  makes-by i e last s v z (Err f) q h = cc
 
   pub makes : (i : ℕ) (e : Element) (last : Bool) (s : Progress) (v : Span) (z : Progress) → one_of t p room i e last s ≡ hit v z → Makes s v z
   makes i e last s v z h = makes-by i e last s v z (field_read_of p (t.field i) i last s.at.0) refl h

@@ -7,6 +7,7 @@ use native.Mathlib.Omega.{arith}
 use lib.ListN.{length, length-append}
 use lib.Dec.{ltb}
 use borrow.Author.Tests.{ltb-false}
+use Rattle.std.specs.Prelude.{Result, Ok, Err}
 use Rattle.bits.specs.declared.BitPos.{BitPos}
 use Rattle.tables.specs.Table.{Table}
 use Rattle.walking.specs.declared.Element.{Element}
@@ -16,7 +17,6 @@ use Rattle.walking.proofs.Visits.{All, all_append}
 use Rattle.walking.proofs.Lawful.{Looks, plain, member, Lawful, lawful-fields, lawful-ran, lawful-stopped}
 use Rattle.fields.specs.declared.DecodeRefusal.{DecodeRefusal}
 use Rattle.fields.specs.declared.DecodeRefusal.TheVariants.{NoRoom}
-use Rattle.fields.specs.declared.Taken.TheVariants.{Took}
 use Rattle.fields.specs.declared.FieldRead.{FieldRead}
 use Rattle.fields.specs.declared.FieldRead.TheVariants as read
 use Rattle.fields.specs.Payload.{Payload}
@@ -41,12 +41,12 @@ module _ (t : Table) (p : Payload) (room : ℕ) where
   -- one field met
   pub record Says (i : ℕ) (e : Element) (last : Bool) (s : Progress) (v : Span) (z : Progress) : Type 0 where
     pub span : v ≡ span_at i e s.at.0 v.bits.0
-    pub took : taken_of p (t.field i) i last s.at.0 ≡ Took v.bits.0
+    pub took : taken_of p (t.field i) i last s.at.0 ≡ Ok v.bits.0
     pub ahead : z.at.0 ≡ past v
 
   -- it takes n bits, and the walk goes on after them
   says_at : (i : ℕ) (e : Element) (last : Bool) (s : Progress) (v : Span) (z : Progress) (n : BitPos) (y : Progress)
-      → taken_of p (t.field i) i last s.at.0 ≡ Took n.0 → y.at.0 ≡ s.at.0 + n.0
+      → taken_of p (t.field i) i last s.at.0 ≡ Ok n.0 → y.at.0 ≡ s.at.0 + n.0
       → ◌≡◌ {A = One Span Progress DecodeRefusal} (hit (span_at i e s.at.0 n.0) y) (hit v z) → Says i e last s v z
   says_at i e last s v z n y o a h =
       let q : span_at i e s.at.0 n.0 ≡ v = cc in
@@ -59,15 +59,15 @@ module _ (t : Table) (p : Payload) (room : ℕ) where
   checked true f o v z h = h
   checked false f o v z h = cc
 
-  says-by : (i : ℕ) (e : Element) (last : Bool) (s : Progress) (v : Span) (z : Progress) (r : FieldRead)
+  says-by : (i : ℕ) (e : Element) (last : Bool) (s : Progress) (v : Span) (z : Progress) (r : Result FieldRead DecodeRefusal)
       → field_read_of p (t.field i) i last s.at.0 ≡ r → settled t room i e s r ≡ hit v z → Says i e last s v z
-  says-by i e last s v z (read.Got n raw x) q h =
+  says-by i e last s v z (Ok (read.Got n raw x)) q h =
       let y : Progress = progress_at (s.at.0 + n.0) (s.made + 1) (noted_by_lem t e i raw s.counters) in
       says_at i e last s v z n y (told (t.field i) p s.at.0 n i last raw x q).took refl (checked (ltb s.made room) (NoRoom i) _ v z h)
-  says-by i e last s v z (read.Skipped n) q h =
+  says-by i e last s v z (Ok (read.Skipped n)) q h =
       let y : Progress = progress_at (s.at.0 + n.0) s.made s.counters in
       says_at i e last s v z n y (gone (t.field i) p s.at.0 n i last q).took refl h
-  says-by i e last s v z (read.Refused f) q h = let k : ◌≡◌ {A = ℕ} 0 1 = cc in absurd (omega arith)
+  says-by i e last s v z (Err f) q h = cc
 
   pub says : (i : ℕ) (e : Element) (last : Bool) (s : Progress) (v : Span) (z : Progress) → one_of t p room i e last s ≡ hit v z → Says i e last s v z
   says i e last s v z h = says-by i e last s v z (field_read_of p (t.field i) i last s.at.0) refl h
@@ -124,13 +124,13 @@ module _ (t : Table) (p : Payload) (room : ℕ) where
   full-check s true j v z f q h i e = let k : ◌≡◌ {A = ℕ} 0 1 = cc in absurd (omega arith)
   full-check s false j v z f q h i e = ltb-false s.made room q
 
-  full_by : (i : ℕ) (e : Element) (last : Bool) (s : Progress) (f : DecodeRefusal) (r : FieldRead)
+  full_by : (i : ℕ) (e : Element) (last : Bool) (s : Progress) (f : DecodeRefusal) (r : Result FieldRead DecodeRefusal)
       → field_read_of p (t.field i) i last s.at.0 ≡ r → settled t room i e s r ≡ miss f → Full s f
-  full_by i e last s f (read.Got n raw x) q h j g = full-check s _ i _ _ f refl h j g
-  full_by i e last s f (read.Skipped n) q h j g = let k : ◌≡◌ {A = ℕ} 0 1 = cc in absurd (omega arith)
-  full_by i e last s f (read.Refused b) q h j g =
+  full_by i e last s f (Ok (read.Got n raw x)) q h j g = full-check s _ i _ _ f refl h j g
+  full_by i e last s f (Ok (read.Skipped n)) q h j g = cc
+  full_by i e last s f (Err b) q h j g =
       let y : b ≡ NoRoom j = cc in
-      absurd (no_room p (t.field i) i last s.at.0 j (q ∙ ap read.Refused y))
+      absurd (no_room p (t.field i) i last s.at.0 j (q ∙ ap Err y))
 
   full-over : (k : ℕ) (s : Progress) → Full s (too_many k (count_of t p k s) (t.set k).maximum)
   full-over k s i e = let z : ◌≡◌ {A = ℕ} 0 1 = cc in absurd (omega arith)

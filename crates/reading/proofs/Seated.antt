@@ -7,6 +7,7 @@ use lib.ListN.{length, length-append}
 use native.Mathlib.Omega.{arith}
 use lib.Dec.{ltb}
 use borrow.Author.Tests.{ltb-true}
+use Rattle.std.specs.Prelude.{Result, Ok, Err}
 use Rattle.tables.specs.Table.{Table}
 use Rattle.walking.specs.declared.Element.{Element}
 use Rattle.walking.specs.Runs.{Run, ran, stopped}
@@ -44,17 +45,17 @@ module _ (t : Table) (p : Payload) (room : ℕ) where
   hit_same : (v w : Span) (z y : Progress) → ◌≡◌ {A = One Span Progress DecodeRefusal} (hit w y) (hit v z) → w ≡ v
   hit_same v w z y h = cc
 
-  seated-by : (i : ℕ) (e : Element) (last : Bool) (s : Progress) (v : Span) (z : Progress) (q : FieldRead)
+  seated-by : (i : ℕ) (e : Element) (last : Bool) (s : Progress) (v : Span) (z : Progress) (q : Result FieldRead DecodeRefusal)
       → field_read_of p (t.field i) i last s.at.0 ≡ q → settled t room i e s q ≡ hit v z → Seated s v z
-  seated-by i e last s v z (read.Got n raw x) g h r m =
+  seated-by i e last s v z (Ok (read.Got n raw x)) g h r m =
       ltb-true _ _ (checked (ltb s.made room) (NoRoom i) v (span_at i e s.at.0 n.0) z (progress_at (s.at.0 + n.0) (s.made + 1) (noted_by_lem t e i raw s.counters)) h)
-  seated-by i e last s v z (read.Skipped n) g h r m =
+  seated-by i e last s v z (Ok (read.Skipped n)) g h r m =
       let w : Span = span_at i e s.at.0 n.0 in
       let o : w ≡ v = hit_same v w z (progress_at (s.at.0 + n.0) s.made s.counters) h in
       let k : ◌≡◌ {A = Answer} (Skipped w) (Met r) = sym ((gone (t.field i) p s.at.0 n i last g).met (reading_of t p w) w) ∙ ap (met_of t p) o ∙ m in
       let y : ◌≡◌ {A = ℕ} 0 1 = cc in
       absurd (omega arith)
-  seated-by i e last s v z (read.Refused f) g h r m = let k : ◌≡◌ {A = ℕ} 0 1 = cc in absurd (omega arith)
+  seated-by i e last s v z (Err f) g h r m = cc
 
   seated : (i : ℕ) (e : Element) (last : Bool) (s : Progress) (v : Span) (z : Progress) → one_of t p room i e last s ≡ hit v z → Seated s v z
   seated i e last s v z h = seated-by i e last s v z (field_read_of p (t.field i) i last s.at.0) refl h
@@ -82,17 +83,17 @@ module _ (t : Table) (p : Payload) (room : ℕ) where
   checked-state true f v w z y h = hit-state v w z y h
   checked-state false f v w z y h = let k : ◌≡◌ {A = ℕ} 0 1 = cc in absurd (omega arith)
 
-  within_by : (i : ℕ) (e : Element) (s : Progress) (v : Span) (z : Progress) (q : FieldRead) → settled t room i e s q ≡ hit v z → s.made ≤ room → z.made ≤ room
-  within_by i e s v z (read.Got n raw x) h l =
+  within_by : (i : ℕ) (e : Element) (s : Progress) (v : Span) (z : Progress) (q : Result FieldRead DecodeRefusal) → settled t room i e s q ≡ hit v z → s.made ≤ room → z.made ≤ room
+  within_by i e s v z (Ok (read.Got n raw x)) h l =
       let w : Span = span_at i e s.at.0 n.0 in
       let y : Progress = progress_at (s.at.0 + n.0) (s.made + 1) (noted_by_lem t e i raw s.counters) in
       let m : s.made < room = ltb-true _ _ (checked (ltb s.made room) (NoRoom i) v w z y h) in
       let k : s.made + 1 ≡ z.made = ap (λ (x : Progress). x.made) (checked-state (ltb s.made room) (NoRoom i) v w z y h) in
       omega (arith, m, k)
-  within_by i e s v z (read.Skipped n) h l =
+  within_by i e s v z (Ok (read.Skipped n)) h l =
       let k : s.made ≡ z.made = ap (λ (x : Progress). x.made) (hit-state v (span_at i e s.at.0 n.0) z (progress_at (s.at.0 + n.0) s.made s.counters) h) in
       omega (arith, k, l)
-  within_by i e s v z (read.Refused f) h l = let k : ◌≡◌ {A = ℕ} 0 1 = cc in absurd (omega arith)
+  within_by i e s v z (Err f) h l = cc
 
   abbrev Within : Progress → List Span → Progress → Type 0
   Within s vs z = (z.made ≡ s.made + length (readings t p vs)) × (s.made ≤ room → z.made ≤ room)

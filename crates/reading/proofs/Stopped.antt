@@ -21,8 +21,6 @@ use Rattle.fields.specs.declared.DecodeRefusal.{DecodeRefusal}
 use Rattle.fields.specs.declared.DecodeRefusal.TheVariants.{NoRoom}
 use Rattle.fields.specs.declared.Shape.{Shape}
 use Rattle.fields.specs.declared.Shape.TheVariants.{Number, Gap, Fixed, Whole, Lau, Lz}
-use Rattle.fields.specs.declared.Taken.{Taken}
-use Rattle.fields.specs.declared.Taken.TheVariants as taken
 use Rattle.fields.specs.declared.FieldRead.{FieldRead}
 use Rattle.fields.specs.declared.FieldRead.TheVariants as read
 use Rattle.fields.specs.Payload.{Payload, payload_of}
@@ -39,20 +37,20 @@ use Rattle.reading.proofs.Passed.{passed-one}
 use Rattle.reading.proofs.Working.{readied, working-le}
 
 -- what is read of a field is refused as its bits are
-as-taken : (sh : Shape) (d : FieldDescriptor) (p : Payload) (at : ℕ) (o : Taken) (f : DecodeRefusal) → read_over o sh d p at ≡ read.Refused f → o ≡ taken.Refused f
-as-taken sh d p at (taken.Refused e) f h = let z : e ≡ f = cc in ap taken.Refused z
-as-taken (Number b) d p at (taken.Took n) f h = let z : ◌≡◌ {A = ℕ} 0 1 = cc in absurd (omega arith)
-as-taken Gap d p at (taken.Took n) f h = let z : ◌≡◌ {A = ℕ} 0 1 = cc in absurd (omega arith)
-as-taken Fixed d p at (taken.Took n) f h = let z : ◌≡◌ {A = ℕ} 0 1 = cc in absurd (omega arith)
-as-taken Whole d p at (taken.Took n) f h = let z : ◌≡◌ {A = ℕ} 0 1 = cc in absurd (omega arith)
-as-taken Lau d p at (taken.Took n) f h = let z : ◌≡◌ {A = ℕ} 0 1 = cc in absurd (omega arith)
-as-taken Lz d p at (taken.Took n) f h = let z : ◌≡◌ {A = ℕ} 0 1 = cc in absurd (omega arith)
+as-taken : (sh : Shape) (d : FieldDescriptor) (p : Payload) (at : ℕ) (o : Result ℕ DecodeRefusal) (f : DecodeRefusal) → read_over o sh d p at ≡ Err f → o ≡ Err f
+as-taken sh d p at (Err e) f h = let z : e ≡ f = cc in ap Err z
+as-taken (Number b) d p at (Ok n) f h = cc
+as-taken Gap d p at (Ok n) f h = cc
+as-taken Fixed d p at (Ok n) f h = cc
+as-taken Whole d p at (Ok n) f h = cc
+as-taken Lau d p at (Ok n) f h = cc
+as-taken Lz d p at (Ok n) f h = cc
 
 -- ## The walk
 
 module _ (t : Table) (p : Payload) (room : ℕ) (P : DecodeRefusal → Type 0)
     (field : (i : ℕ) (e : Element) (last : Bool) (at : ℕ) (f : DecodeRefusal) → Looks t t.count i e last → at ≤ p.size * 8
-    → taken_of p (t.field i) i last at ≡ taken.Refused f → P f)
+    → taken_of p (t.field i) i last at ≡ Err f → P f)
     (full : (i : ℕ) → P (NoRoom i)) (over : (k n m : ℕ) → P (too_many k n m)) where
   no_room : (b : Bool) (i : ℕ) (v : Span) (z : Progress) (f : DecodeRefusal) → check b (NoRoom i) (hit v z) ≡ miss f → P f
   unfolding check
@@ -67,14 +65,14 @@ module _ (t : Table) (p : Payload) (room : ℕ) (P : DecodeRefusal → Type 0)
   abbrev Stops : Progress → DecodeRefusal → Type 0
   Stops s f = s.at.0 ≤ p.size * 8 → P f
 
-  stops-by : (i : ℕ) (e : Element) (last : Bool) (s : Progress) (f : DecodeRefusal) → Looks t t.count i e last → (q : FieldRead)
+  stops-by : (i : ℕ) (e : Element) (last : Bool) (s : Progress) (f : DecodeRefusal) → Looks t t.count i e last → (q : Result FieldRead DecodeRefusal)
       → field_read_of p (t.field i) i last s.at.0 ≡ q → settled t room i e s q ≡ miss f → Stops s f
-  stops-by i e last s f l (read.Got n raw x) g h w = no_room (ltb s.made room) i _ _ f h
-  stops-by i e last s f l (read.Skipped n) g h w = let k : ◌≡◌ {A = ℕ} 0 1 = cc in absurd (omega arith)
-  stops-by i e last s f l (read.Refused x) g h w =
+  stops-by i e last s f l (Ok (read.Got n raw x)) g h w = no_room (ltb s.made room) i _ _ f h
+  stops-by i e last s f l (Ok (read.Skipped n)) g h w = cc
+  stops-by i e last s f l (Err x) g h w =
       let k : x ≡ f = cc in
       field i e last s.at.0 f l w
-      (as-taken (shape_of (t.field i)) (t.field i) p s.at.0 (taken_of p (t.field i) i last s.at.0) f (g ∙ ap read.Refused k))
+      (as-taken (shape_of (t.field i)) (t.field i) p s.at.0 (taken_of p (t.field i) i last s.at.0) f (g ∙ ap Err k))
 
   lawful : Lawful Within Stops beginning (walk_of t p room)
   unfolding walk_from

@@ -3,15 +3,13 @@ use mathlib.Core.Path.{◌≡◌, refl, ap, subst}
 use mathlib.Core.Bool.{Bool}
 use mathlib.Core.List.{List, ◌∷◌}
 use Prim.Native.Nat.{ℕ}
-use native.Mathlib.Omega.{arith}
+use Rattle.std.specs.Prelude.{Option, Result, Ok, Err}
 use Rattle.bits.specs.declared.BitPos.{BitPos}
 use Rattle.descriptor.specs.declared.FieldDescriptor.{FieldDescriptor}
 use Rattle.descriptor.specs.declared.PgnValue.{PgnValue}
-use Rattle.fields.specs.declared.Raw.{Raw}
+use Rattle.fields.specs.declared.DecodeRefusal.{DecodeRefusal}
 use Rattle.fields.specs.declared.Shape.{Shape}
 use Rattle.fields.specs.declared.Shape.TheVariants.{Number, Gap, Fixed, Whole, Lau, Lz}
-use Rattle.fields.specs.declared.Taken.{Taken}
-use Rattle.fields.specs.declared.Taken.TheVariants.{Took, Refused}
 use Rattle.fields.specs.declared.FieldRead.TheVariants as read
 use Rattle.reading.specs.declared.Reading.{Reading}
 use Rattle.reading.specs.declared.Span.{Span}
@@ -25,44 +23,44 @@ use Rattle.reading.specs.Steps.{met_by}
 use Rattle.fields.proofs.Inside.{Fits, Inside, taken_in, took_in}
 
 -- a field that takes n bits and has a reading
-pub record Told (sh : Shape) (f : FieldDescriptor) (p : Payload) (at : ℕ) (o : Taken) (n : ℕ) (r : Raw) (x : PgnValue) : Type 0 where
-  pub took : o ≡ Took n
+pub record Told (sh : Shape) (f : FieldDescriptor) (p : Payload) (at : ℕ) (o : Result ℕ DecodeRefusal) (n : ℕ) (r : Option ℕ) (x : PgnValue) : Type 0 where
+  pub took : o ≡ Ok n
   pub raw : r ≡ raw_in sh p at n
   pub value : x ≡ value_in sh f p at n
   pub met : (q : Reading) (v : Span) → met_by sh q v ≡ Met q
   pub kept : (q : Reading) (qs : List Reading) → with_reading sh q qs ≡ q ∷ qs
 
 -- a field that takes n bits and is skipped
-pub record Gone (sh : Shape) (o : Taken) (n : ℕ) : Type 0 where
-  pub took : o ≡ Took n
+pub record Gone (sh : Shape) (o : Result ℕ DecodeRefusal) (n : ℕ) : Type 0 where
+  pub took : o ≡ Ok n
   pub met : (q : Reading) (v : Span) → met_by sh q v ≡ Skipped v
   pub kept : (q : Reading) (qs : List Reading) → with_reading sh q qs ≡ qs
 
 module _ (f : FieldDescriptor) (p : Payload) (at : ℕ) (n : BitPos) where
-  got-by : (r : Raw) (x : PgnValue) (o : Taken) (sh : Shape) → read_over o sh f p at ≡ read.Got n r x → Told sh f p at o n.0 r x
-  got-by r x (Refused e) sh h = let z : ◌≡◌ {A = ℕ} 0 1 = cc in absurd (omega arith)
-  got-by r x (Took m) Gap h = let z : ◌≡◌ {A = ℕ} 0 1 = cc in absurd (omega arith)
-  got-by r x (Took m) (Number b) h = let e : m ≡ n.0 = cc in record { took = ap Took e; raw = cc; value = cc; met = λ q v. refl; kept = λ q qs. refl }
-  got-by r x (Took m) Fixed h = let e : m ≡ n.0 = cc in record { took = ap Took e; raw = cc; value = cc; met = λ q v. refl; kept = λ q qs. refl }
-  got-by r x (Took m) Whole h = let e : m ≡ n.0 = cc in record { took = ap Took e; raw = cc; value = cc; met = λ q v. refl; kept = λ q qs. refl }
-  got-by r x (Took m) Lau h = let e : m ≡ n.0 = cc in record { took = ap Took e; raw = cc; value = cc; met = λ q v. refl; kept = λ q qs. refl }
-  got-by r x (Took m) Lz h = let e : m ≡ n.0 = cc in record { took = ap Took e; raw = cc; value = cc; met = λ q v. refl; kept = λ q qs. refl }
+  got-by : (r : Option ℕ) (x : PgnValue) (o : Result ℕ DecodeRefusal) (sh : Shape) → read_over o sh f p at ≡ Ok (read.Got n r x) → Told sh f p at o n.0 r x
+  got-by r x (Err e) sh h = cc
+  got-by r x (Ok m) Gap h = cc
+  got-by r x (Ok m) (Number b) h = let e : m ≡ n.0 = cc in record { took = ap Ok e; raw = cc; value = cc; met = λ q v. refl; kept = λ q qs. refl }
+  got-by r x (Ok m) Fixed h = let e : m ≡ n.0 = cc in record { took = ap Ok e; raw = cc; value = cc; met = λ q v. refl; kept = λ q qs. refl }
+  got-by r x (Ok m) Whole h = let e : m ≡ n.0 = cc in record { took = ap Ok e; raw = cc; value = cc; met = λ q v. refl; kept = λ q qs. refl }
+  got-by r x (Ok m) Lau h = let e : m ≡ n.0 = cc in record { took = ap Ok e; raw = cc; value = cc; met = λ q v. refl; kept = λ q qs. refl }
+  got-by r x (Ok m) Lz h = let e : m ≡ n.0 = cc in record { took = ap Ok e; raw = cc; value = cc; met = λ q v. refl; kept = λ q qs. refl }
 
-  gone-by : (o : Taken) (sh : Shape) → read_over o sh f p at ≡ read.Skipped n → Gone sh o n.0
-  gone-by (Refused e) sh h = let z : ◌≡◌ {A = ℕ} 0 1 = cc in absurd (omega arith)
-  gone-by (Took m) Gap h = let e : m ≡ n.0 = cc in record { took = ap Took e; met = λ q v. refl; kept = λ q qs. refl }
-  gone-by (Took m) (Number b) h = let z : ◌≡◌ {A = ℕ} 0 1 = cc in absurd (omega arith)
-  gone-by (Took m) Fixed h = let z : ◌≡◌ {A = ℕ} 0 1 = cc in absurd (omega arith)
-  gone-by (Took m) Whole h = let z : ◌≡◌ {A = ℕ} 0 1 = cc in absurd (omega arith)
-  gone-by (Took m) Lau h = let z : ◌≡◌ {A = ℕ} 0 1 = cc in absurd (omega arith)
-  gone-by (Took m) Lz h = let z : ◌≡◌ {A = ℕ} 0 1 = cc in absurd (omega arith)
+  gone-by : (o : Result ℕ DecodeRefusal) (sh : Shape) → read_over o sh f p at ≡ Ok (read.Skipped n) → Gone sh o n.0
+  gone-by (Err e) sh h = cc
+  gone-by (Ok m) Gap h = let e : m ≡ n.0 = cc in record { took = ap Ok e; met = λ q v. refl; kept = λ q qs. refl }
+  gone-by (Ok m) (Number b) h = cc
+  gone-by (Ok m) Fixed h = cc
+  gone-by (Ok m) Whole h = cc
+  gone-by (Ok m) Lau h = cc
+  gone-by (Ok m) Lz h = cc
 
-  pub told : (i : ℕ) (early : Bool) (r : Raw) (x : PgnValue) → field_read_of p f i early at ≡ read.Got n r x → Told (shape_of f) f p at (taken_of p f i early at) n.0 r x
+  pub told : (i : ℕ) (early : Bool) (r : Option ℕ) (x : PgnValue) → field_read_of p f i early at ≡ Ok (read.Got n r x) → Told (shape_of f) f p at (taken_of p f i early at) n.0 r x
   told i early r x h = got-by r x (taken_of p f i early at) (shape_of f) h
 
-  pub gone : (i : ℕ) (early : Bool) → field_read_of p f i early at ≡ read.Skipped n → Gone (shape_of f) (taken_of p f i early at) n.0
+  pub gone : (i : ℕ) (early : Bool) → field_read_of p f i early at ≡ Ok (read.Skipped n) → Gone (shape_of f) (taken_of p f i early at) n.0
   gone i early h = gone-by (taken_of p f i early at) (shape_of f) h
 
   -- what is taken lies in the payload
-  pub lies_in : (i : ℕ) (early : Bool) → taken_of p f i early at ≡ Took n.0 → Fits p at n.0
-  lies_in i early h = took_in p at (subst (λ (o : Taken). Inside p at o) h (taken_in p at (shape_of f) i early f.width))
+  pub lies_in : (i : ℕ) (early : Bool) → taken_of p f i early at ≡ Ok n.0 → Fits p at n.0
+  lies_in i early h = took_in p at (subst (λ (o : Result ℕ DecodeRefusal). Inside p at o) h (taken_in p at (shape_of f) i early f.width))

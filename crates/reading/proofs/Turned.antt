@@ -5,7 +5,7 @@ use Prim.Native.Nat.{ℕ, ◌+◌, ◌≤◌, ◌<◌}
 use lib.Dec.{leb, ltb}
 use lib.ListN.{get_or}
 use borrow.Author.Tests.{lt-ltb, le-ltb}
-use Rattle.std.specs.Prelude.{Result, Ok, Err}
+use Rattle.std.specs.Prelude.{Result, Ok, Err, Option}
 use Rattle.bits.specs.Bits.{pick}
 use Rattle.bits.specs.declared.BitPos.{BitPos}
 use Rattle.descriptor.specs.declared.PgnValue.{PgnValue}
@@ -21,7 +21,6 @@ use Rattle.walking.specs.Looks.{look_of}
 use Rattle.walking.proofs.Looked.{looked}
 use Rattle.fields.specs.declared.DecodeRefusal.{DecodeRefusal}
 use Rattle.fields.specs.declared.DecodeRefusal.TheVariants.{NoRoom}
-use Rattle.fields.specs.declared.Raw.{Raw}
 use Rattle.fields.specs.declared.FieldRead.{FieldRead}
 use Rattle.fields.specs.declared.FieldRead.TheVariants as read
 use Rattle.reading.specs.declared.Answer.{Answer}
@@ -39,10 +38,10 @@ use Rattle.reading.proofs.Told.{told, gone}
 
 module _ (t : Table) (p : Payload) (room : ℕ) (here to : Spot) (i : ℕ) (e : Element) (last : Bool) (s : Progress) where
   -- a field was read so
-  abbrev sees : FieldRead → Next
+  abbrev sees : Result FieldRead DecodeRefusal → Next
   sees r = shown t p here (seen to s (settled t room i e s r))
 
-  abbrev result : FieldRead
+  abbrev result : Result FieldRead DecodeRefusal
   result = field_read_of p (t.field i) i last s.at.0
 
   abbrev target : Next
@@ -58,7 +57,7 @@ module _ (t : Table) (p : Payload) (room : ℕ) (here to : Spot) (i : ℕ) (e : 
   checked-out true v z h = cc
   checked-out false v z h = refl
 
-  module _ (n : BitPos) (r : Raw) (x : PgnValue) (h : result ≡ read.Got n r x) where
+  module _ (n : BitPos) (r : Option ℕ) (x : PgnValue) (h : result ≡ Ok (read.Got n r x)) where
     abbrev span : Span
     span = span_at i e s.at.0 n.0
 
@@ -73,22 +72,22 @@ module _ (t : Table) (p : Payload) (room : ℕ) (here to : Spot) (i : ℕ) (e : 
     pub see-full : room ≤ s.made → next_to (Refused (NoRoom i)) here s ≡ target
     see-full l = checked-out (ltb s.made room) span after (le-ltb _ _ l) ∙ ap sees (sym h)
 
-  gone-in : (n : BitPos) → next_to (met_of t p (span_at i e s.at.0 n.0)) to (progress_at (s.at.0 + n.0) s.made s.counters) ≡ sees (read.Skipped n)
+  gone-in : (n : BitPos) → next_to (met_of t p (span_at i e s.at.0 n.0)) to (progress_at (s.at.0 + n.0) s.made s.counters) ≡ sees (Ok (read.Skipped n))
   unfolding seen
   gone-in n = refl
 
-  pub see-gone : (n : BitPos) → result ≡ read.Skipped n
+  pub see-gone : (n : BitPos) → result ≡ Ok (read.Skipped n)
       → next_to (Skipped (span_at i e s.at.0 n.0)) to (progress_at (s.at.0 + n.0) s.made s.counters) ≡ target
   see-gone n h =
       let v : Span = span_at i e s.at.0 n.0 in
       ap (λ (a : Answer). next_to a to (progress_at (s.at.0 + n.0) s.made s.counters)) (sym ((gone (t.field i) p s.at.0 n i last h).met (reading_of t p v) v))
       ∙ gone-in n ∙ ap sees (sym h)
 
-  refused-in : (f : DecodeRefusal) → next_to (Refused f) here s ≡ sees (read.Refused f)
+  refused-in : (f : DecodeRefusal) → next_to (Refused f) here s ≡ sees (Err f)
   unfolding seen
   refused-in f = refl
 
-  pub see-refused : (f : DecodeRefusal) → result ≡ read.Refused f → next_to (Refused f) here s ≡ target
+  pub see-refused : (f : DecodeRefusal) → result ≡ Err f → next_to (Refused f) here s ≡ target
   see-refused f h = refused-in f ∙ ap sees (sym h)
 
 -- ## Which field comes next

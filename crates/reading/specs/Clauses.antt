@@ -1,11 +1,10 @@
 -- What each call answers and leaves, as its contract says it: one equation for the answer, and one for the padding run at exit where it is lent to be written. They put
 -- the definitions of Filling, Decode and Steps together over the words and bytes themselves, and rule nothing of their own: only the code needs them.
-use Rattle.std.specs.Prelude.{◌≡◌, ℕ, List, length, Result}
+use Rattle.std.specs.Prelude.{◌≡◌, ℕ, List, length, Result, Option}
 use Rattle.tables.specs.Table.{table_of}
 use Rattle.fields.specs.declared.DecodeRefusal.{DecodeRefusal}
 use Rattle.fields.specs.Payload.{payload_of}
 use Rattle.descriptor.specs.declared.PgnValue.{PgnValue}
-use Rattle.fields.specs.declared.Raw.{Raw}
 use Rattle.reading.specs.declared.Span.{Span}
 use Rattle.reading.specs.declared.Decoded.{Decoded}
 use Rattle.reading.specs.Filling.{prepared_of, run_after}
@@ -35,7 +34,7 @@ walked_by words s room =
     end_of t p (walk_of t p room)
 
 -- what `reading_of` is handed: the raw and the value of the field met
-abbrev pub ReadOf : Raw → PgnValue → List ℕ → List ℕ → Span → Type 0
+abbrev pub ReadOf : Option ℕ → PgnValue → List ℕ → List ℕ → Span → Type 0
 ReadOf raw value words s v =
     let r = reading_of (table_of words) (payload_of s) v in
     (raw ≡ r.raw) × (value ≡ r.value)

@@ -12,7 +12,7 @@ use Rattle.fields.specs.declared.DecodeRefusal.TheVariants.{NoRoom}
 use Rattle.fields.specs.declared.Shape.{Shape}
 use Rattle.fields.specs.declared.Shape.TheVariants.{Number, Gap, Fixed, Whole, Lau, Lz}
 use Rattle.fields.specs.declared.FieldRead.{FieldRead}
-use Rattle.fields.specs.declared.FieldRead.TheVariants.{Got, Skipped, Refused}
+use Rattle.fields.specs.declared.FieldRead.TheVariants.{Got, Skipped}
 use Rattle.reading.specs.declared.Span.{Span}
 use Rattle.reading.specs.declared.Reading.{Reading}
 use Rattle.reading.specs.declared.Progress.{Progress}
@@ -35,12 +35,12 @@ abbrev pub progress_at : ℕ → ℕ → List ℕ → Progress
 progress_at at made cs = record { at = bits at; made = made; counters = cs }
 
 -- "At a decoded field: group count, read, room": the last two; a skipped field needs no room
-abbrev pub settled : Table → ℕ → ℕ → Element → Progress → FieldRead → One Span Progress DecodeRefusal
-settled t room i e s (Got n raw value) =
+abbrev pub settled : Table → ℕ → ℕ → Element → Progress → Result FieldRead DecodeRefusal → One Span Progress DecodeRefusal
+settled t room i e s (Ok (Got n raw value)) =
     check (ltb s.made room) (NoRoom i)
     (hit (span_at i e s.at.0 n.0) (progress_at (s.at.0 + n.0) (s.made + 1) (noted_by_lem t e i raw s.counters)))
-settled t room i e s (Skipped n) = hit (span_at i e s.at.0 n.0) (progress_at (s.at.0 + n.0) s.made s.counters)
-settled t room i e s (Refused f) = miss f
+settled t room i e s (Ok (Skipped n)) = hit (span_at i e s.at.0 n.0) (progress_at (s.at.0 + n.0) s.made s.counters)
+settled t room i e s (Err f) = miss f
 
 -- field i, of element e, where the walk has come to
 abbrev pub one_of : Table → Payload → ℕ → ℕ → Element → Bool → Progress → One Span Progress DecodeRefusal

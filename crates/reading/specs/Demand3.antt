@@ -2,17 +2,15 @@
 -- skipped ones included, cover each bit from 0 to the reported end once. Change the bits of one number that is no group counter and lies
 -- wholly in the received bytes: the payload still decodes, every span and every other reading stays the same, and that reading's raw is the
 -- new bits." Definitions only: that it holds is `proofs/Demand3.antt`.
-use Rattle.std.specs.Prelude.{◌≡◌, ℕ, ◌+◌, ◌*◌, ◌%◌, ◌^◌, ◌≤◌, ◌<◌, Bool, false, ◌&&◌, List, [], ◌∷◌, ◌++◌, eqb, leb, ltb, length}
+use Rattle.std.specs.Prelude.{◌≡◌, ℕ, ◌+◌, ◌*◌, ◌%◌, ◌^◌, ◌≤◌, ◌<◌, Bool, false, ◌&&◌, List, [], ◌∷◌, ◌++◌, eqb, leb, ltb, length, Some, Ok}
 use Rattle.bits.specs.Bits.{pick, written}
 use Rattle.tables.specs.Table.{Table}
 use Rattle.tables.specs.Check.{payload_max}
 use Rattle.walking.specs.declared.Element.{Element}
 use Rattle.walking.specs.declared.Element.TheVariants.{Outside, At}
 use Rattle.walking.specs.Runs.{ran}
-use Rattle.fields.specs.declared.Raw.TheVariants as raw
 use Rattle.fields.specs.declared.Shape.{Shape}
 use Rattle.fields.specs.declared.Shape.TheVariants.{Number, Gap, Fixed, Whole, Lau, Lz}
-use Rattle.fields.specs.declared.Taken.TheVariants.{Took}
 use Rattle.fields.specs.Payload.{Payload, payload_of}
 use Rattle.fields.specs.Shapes.{shape_of}
 use Rattle.fields.specs.Taken.{taken_of}
@@ -54,7 +52,7 @@ last_by t i (At e) = false
 
 -- "the bits that demand 2's rules give each field met": the span's bits are those that its field takes where it starts
 abbrev pub Ruled : Table → Payload → Span → Type 0
-Ruled t p v = taken_of p (t.field v.field) v.field (last_by t v.field v.element) v.start.0 ≡ Took v.bits.0
+Ruled t p v = taken_of p (t.field v.field) v.field (last_by t v.field v.element) v.start.0 ≡ Ok v.bits.0
 
 -- "Reserved and Spare are skipped"
 abbrev pub unskipped : Shape → ℕ
@@ -92,7 +90,7 @@ pub record Kept (t : Table) (p p' : Payload) (room : ℕ) (us : List Span) (v : 
   -- .. and are these
   pub are : readings t p' (us ++ v ∷ ws) ≡ readings t p us ++ reading_of t p' v ∷ readings t p ws
   -- "and that reading's raw is the new bits"
-  pub new : (reading_of t p' v).raw ≡ raw.Number (x % 2 ^ v.bits.0)
+  pub new : (reading_of t p' v).raw ≡ Some (x % 2 ^ v.bits.0)
 
 -- ## The demand
 

@@ -4,7 +4,7 @@ ghost use Rattle.tables.specs.Table.{table_of};
 ghost use Rattle.reading.specs.Groups.{noted as noted_of, noted_by_lem, fitting as fittingOf, element_count_lem, group_count_of};
 
 use bits::BitPos;
-use fields::{DecodeRefusal, Raw};
+use fields::DecodeRefusal;
 use walking::Element;
 
 // The counters once field i has been read as r.
@@ -25,7 +25,7 @@ pub fn noted_by(
     words: &[u64],
     e: Element,
     i: usize,
-    raw: Raw,
+    raw: Option<u64>,
     cs: [u64; tables::SET_MAX],
 ) -> [u64; tables::SET_MAX]
     ensures { result ≡ noted_by_lem (table_of words.now) e i raw cs }
@@ -33,8 +33,8 @@ pub fn noted_by(
     match e {
         Element::At(_) => cs,
         Element::Outside => match raw {
-            Raw::Number(r) => noted(words, i, r, cs),
-            Raw::Absent => cs,
+            Some(r) => noted(words, i, r, cs),
+            None => cs,
         },
     }
 }

@@ -15,7 +15,7 @@
 
 use bits::BitPos;
 use descriptor::{Availability, PgnValue};
-use fields::{DecodeRefusal, Raw};
+use fields::DecodeRefusal;
 use walking::{Element, Spot};
 
 mod decoding;
@@ -48,7 +48,7 @@ pub struct Reading {
     pub element: Element,
     pub start: BitPos,
     pub bits: BitPos,
-    pub raw: Raw,
+    pub raw: Option<u64>,
     pub value: PgnValue,
     pub availability: Availability,
 }

@@ -10,7 +10,7 @@ ghost use Rattle.reading.specs.Steps.{next_to, shown_at, next_of, start_of, came
 use crate::{Answer, Came, Decoded, Next, Progress, Reading, Span, Walk, groups};
 use bits::{BitPos, Cursor};
 use descriptor::PgnValue;
-use fields::{DecodeRefusal, FieldRead, Raw, field_availability, read_field_raw_and_value};
+use fields::{DecodeRefusal, FieldRead, field_availability, read_field_raw_and_value};
 use walking::{Element, Look, Spot};
 
 // A walk before its first field.
@@ -36,7 +36,7 @@ fn next(answer: Answer, spot: Spot, progress: Progress) -> Next
 }
 
 // The reading of a field met.
-fn reading_of(words: &[u64], s: &[u8], v: Span, raw: Raw, value: PgnValue) -> Reading
+fn reading_of(words: &[u64], s: &[u8], v: Span, raw: Option<u64>, value: PgnValue) -> Reading
     requires { ReadOf raw value words.now s.now v }
     ensures { result ≡ reading_of (table_of words.now) (payload_of s.now) v }
 {
@@ -76,7 +76,7 @@ fn see(
     let cs = p.counters;
     let f = tables::field_at(words, i);
     match read_field_raw_and_value(s, Cursor { at }, f, i, last) {
-        FieldRead::Got { bits, raw, value } => {
+        Ok(FieldRead::Got { bits, raw, value }) => {
             if made < room {
                 let v = Span {
                     field: i,
@@ -96,7 +96,7 @@ fn see(
             }
             next(Answer::Refused(DecodeRefusal::NoRoom { field: i }), here, p)
         }
-        FieldRead::Skipped { bits } => {
+        Ok(FieldRead::Skipped { bits }) => {
             let v = Span {
                 field: i,
                 element: e,
@@ -111,7 +111,7 @@ fn see(
             };
             next(Answer::Skipped(v), to, progress)
         }
-        FieldRead::Refused(e) => next(Answer::Refused(e), here, p),
+        Err(e) => next(Answer::Refused(e), here, p),
     }
 }
 

@@ -7,6 +7,7 @@ use native.Mathlib.Omega.{arith}
 use lib.Dec.{eqb, ltb}
 use lib.ListN.{length-append}
 use borrow.Author.Tests.{lt-ltb, le-ltb}
+use Rattle.std.specs.Prelude.{None}
 use Rattle.tables.specs.Table.{Table}
 use Rattle.tables.specs.Check.{check_of}
 use Rattle.tables.specs.declared.Checked.TheVariants.{Accepted}
@@ -21,7 +22,6 @@ use Rattle.walking.specs.Walk.{One, hit, place_of}
 use Rattle.walking.specs.Turns.{Turn, moved, met, either, seen, turn_by, turn_within, turn}
 use Rattle.fields.specs.declared.DecodeRefusal.{DecodeRefusal}
 use Rattle.fields.specs.Payload.{Payload}
-use Rattle.fields.specs.declared.Raw.TheVariants.{Absent}
 use Rattle.reading.specs.declared.Span.{Span}
 use Rattle.reading.specs.declared.Reading.{Reading}
 use Rattle.reading.specs.declared.Progress.{Progress}
@@ -181,12 +181,12 @@ module _ (t : Table) (p : Payload) (room : ℕ) where
   leads-plain i l s out k z out' h r = record { readings = r.readings; led = led-plain i l s h.below h.all r.high r.hits; made = r.made; puts = r.puts }
 
   pub leads-within : (k e j at made : ℕ) (out : List ℕ) (g : RepeatingFieldSet) (r : Stretch) (out' : List ℕ) → g ≡ t.set k
-      → Runs t p room (At e) (g.start + j) (g.start + g.size) at made out r out' → LeadsIn t p room k e j at made out (stretch_at (r.field - g.start) r.at r.made Absent) out'
+      → Runs t p room (At e) (g.start + j) (g.start + g.size) at made out r out' → LeadsIn t p room k e j at made out (stretch_at (r.field - g.start) r.at r.made None) out'
   leads-within k e j at made out g r out' h =
-      subst (λ (x : RepeatingFieldSet). Runs t p room (At e) (x.start + j) (x.start + x.size) at made out r out' → LeadsIn t p room k e j at made out (stretch_at (r.field - x.start) r.at r.made Absent) out') (sym h)
+      subst (λ (x : RepeatingFieldSet). Runs t p room (At e) (x.start + j) (x.start + x.size) at made out r out' → LeadsIn t p room k e j at made out (stretch_at (r.field - x.start) r.at r.made None) out') (sym h)
       (λ y. record { all = λ n cs l. let q = y.all cs in record { readings = q.readings; led = led-within k n e j (progress_at at made cs) l q.high q.hits; made = q.made; puts = q.puts } })
 
-  pub leads-still : (k e j at made : ℕ) (out : List ℕ) → LeadsIn t p room k e j at made out (stretch_at j at made Absent) out
+  pub leads-still : (k e j at made : ℕ) (out : List ℕ) → LeadsIn t p room k e j at made out (stretch_at j at made None) out
   leads-still k e j at made out = record { all = λ n cs l. leads-none (walk_at_lem (Within k n e j) (progress_at at made cs)) out (walk_at_lem (Within k n e j) (progress_at at made cs)) here refl }
 
   pub leads-next : (k n e j : ℕ) (s : Progress) (out : List ℕ) → e < n → (t.set k).size ≤ j → Leads t p room (walk_at_lem (Within k n e j) s) out (walk_at_lem (Within k n (e + 1) 0) s) out

@@ -7,14 +7,13 @@ use Prim.Native.Nat.{ℕ, zero, suc, ◌+◌, ◌-◌, ◌≤◌, ◌<◌, min}
 use native.Mathlib.Omega.{arith}
 use lib.ListN.{length-append, set}
 use borrow.Author.Tests.{ne_eqb}
+use Rattle.std.specs.Prelude.{Option, Some, None}
 use Rattle.bits.specs.Bits.{pick}
 use Rattle.bits.proofs.Written.{below}
 use Rattle.tables.specs.Table.{Table}
 use Rattle.tables.specs.Check.{set_max}
 use Rattle.walking.specs.declared.Element.{Element}
 use Rattle.walking.specs.declared.Element.TheVariants.{Outside, At}
-use Rattle.fields.specs.declared.Raw.{Raw}
-use Rattle.fields.specs.declared.Raw.TheVariants as raw
 use Rattle.fields.specs.Payload.{Payload}
 use Rattle.reading.specs.declared.Reading.{Reading}
 use Rattle.reading.specs.declared.Progress.{Progress}
@@ -34,7 +33,7 @@ module _ (t : Table) (i r : ℕ) (cs : List ℕ) where
       ∙ unnoted m (λ k l. h k (omega arith))
 
 -- nothing was read
-pub absent : (t : Table) (e : Element) (i : ℕ) (cs : List ℕ) → noted_by_lem t e i raw.Absent cs ≡ cs
+pub absent : (t : Table) (e : Element) (i : ℕ) (cs : List ℕ) → noted_by_lem t e i None cs ≡ cs
 absent t Outside i cs = refl
 absent t (At e) i cs = refl
 
@@ -67,9 +66,9 @@ module _ (t : Table) (i end : ℕ) where
   pub quiets-all : {m r : ℕ} → Quiets m r → m ≡ t.sets → Quiet t Outside i r
   quiets-all {m} {r} s e = record { all = λ j a h x cs. by j a h x cs }
     where
-      by : (j : ℕ) → i ≤ j → j + 1 < r → (x : Raw) (cs : List ℕ) → noted_by_lem t Outside j x cs ≡ cs
-      by j a h raw.Absent cs = refl
-      by j a h (raw.Number y) cs = unnoted t j y cs (min t.sets set_max) (λ k l. s.sets k (omega (arith, e, l)) j a h)
+      by : (j : ℕ) → i ≤ j → j + 1 < r → (x : Option ℕ) (cs : List ℕ) → noted_by_lem t Outside j x cs ≡ cs
+      by j a h None cs = refl
+      by j a h (Some y) cs = unnoted t j y cs (min t.sets set_max) (λ k l. s.sets k (omega (arith, e, l)) j a h)
 
 -- ## Stretches one after another
 
@@ -99,11 +98,11 @@ module _ (t : Table) (p : Payload) (room : ℕ) (e : Element) (from end at₀ ma
   abbrev pub Comes : ℕ → ℕ → ℕ → List ℕ → List ℕ → List ℕ → Type 0
   Comes i at made cs ds out = Ran t p room e from end (progress_at at₀ made₀ cs) out₀ i (progress_at at made ds) out
 
-  pub record Passing (i at made : ℕ) (x : Raw) (out : List ℕ) : Type 0 where
+  pub record Passing (i at made : ℕ) (x : Option ℕ) (out : List ℕ) : Type 0 where
     pub runs : (cs : List ℕ) → Comes i at made cs (noted_by_lem t e (i - 1) x cs) out
     pub still : i < end → (cs : List ℕ) → noted_by_lem t e (i - 1) x cs ≡ cs
 
-  pub passing-none : from < end → Passing from at₀ made₀ raw.Absent out₀
+  pub passing-none : from < end → Passing from at₀ made₀ None out₀
   passing-none l =
       record {
         runs = λ cs. subst (λ (ds : List ℕ). Comes from at₀ made₀ cs ds out₀) (sym (absent t e (from - 1) cs)) (ran-none t p room e from end (progress_at at₀ made₀ cs) out₀ (omega (arith, l)));
@@ -111,10 +110,10 @@ module _ (t : Table) (p : Payload) (room : ℕ) (e : Element) (from end at₀ ma
       }
 
   -- nothing is to be noted before the end
-  before : (i at made : ℕ) (x : Raw) (out : List ℕ) → Passing i at made x out → i < end → (cs : List ℕ) → Comes i at made cs cs out
+  before : (i at made : ℕ) (x : Option ℕ) (out : List ℕ) → Passing i at made x out → i < end → (cs : List ℕ) → Comes i at made cs cs out
   before i at made x out h l cs = subst (λ (ds : List ℕ). Comes i at made cs ds out) (h.still l cs) (h.runs cs)
 
-  pub passing-more : (i at made : ℕ) (x : Raw) (out : List ℕ) → Passing i at made x out → i < end → Quiet t e from end → (n k : ℕ) (count : List ℕ → List ℕ) (y : Raw)
+  pub passing-more : (i at made : ℕ) (x : Option ℕ) (out : List ℕ) → Passing i at made x out → i < end → Quiet t e from end → (n k : ℕ) (count : List ℕ → List ℕ) (y : Option ℕ)
       → ((cs : List ℕ) → count cs ≡ noted_by_lem t e i y cs) → (out' : List ℕ) → Field t p room i e at made out n k count out' → Passing (i + 1) (at + n) (made + k) y out'
   passing-more i at made x out h l q n k count y same out' d =
       let u : i ≡ i + 1 - 1 = omega arith in
@@ -125,11 +124,11 @@ module _ (t : Table) (p : Payload) (room : ℕ) (e : Element) (from end at₀ ma
         still = λ m cs. ap (λ (j : ℕ). noted_by_lem t e j y cs) (sym u) ∙ q.all i low m y cs;
       }
 
-  pub runs-stop : (i at made : ℕ) (x : Raw) (out : List ℕ) → Passing i at made x out → i < end → Runs t p room e from end at₀ made₀ out₀ (stretch_at i at made raw.Absent) out
+  pub runs-stop : (i at made : ℕ) (x : Option ℕ) (out : List ℕ) → Passing i at made x out → i < end → Runs t p room e from end at₀ made₀ out₀ (stretch_at i at made None) out
   runs-stop i at made x out h l =
       record { all = λ cs. subst (λ (ds : List ℕ). Comes i at made cs ds out) (sym (absent t e (end - 1) cs)) (before i at made x out h l cs) }
 
-  pub runs-end : (i at made : ℕ) (x : Raw) (out : List ℕ) → Passing i at made x out → end ≤ i → Runs t p room e from end at₀ made₀ out₀ (stretch_at i at made x) out
+  pub runs-end : (i at made : ℕ) (x : Option ℕ) (out : List ℕ) → Passing i at made x out → end ≤ i → Runs t p room e from end at₀ made₀ out₀ (stretch_at i at made x) out
   runs-end i at made x out h l =
       let high = (h.runs []).high in
       let u : i ≡ end = omega (arith, high, l) in

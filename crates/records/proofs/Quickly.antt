@@ -8,6 +8,7 @@ use native.Mathlib.Omega.{arith}
 use lib.Dec.{ltb}
 use lib.ListN.{length, length-append}
 use borrow.Author.Tests.{lt-ltb}
+use Rattle.std.specs.Prelude.{Option, Some, Ok}
 use Rattle.bits.specs.Calls.{bits, cursor_at, read_u64_of, advance_of}
 use Rattle.bits.specs.declared.Cursor.{Cursor}
 use Rattle.bits.specs.declared.ReadU64.TheVariants as read64
@@ -26,8 +27,6 @@ use Rattle.walking.specs.declared.Element.{Element}
 use Rattle.walking.specs.Walk.{hit, check}
 use Rattle.fields.specs.declared.DecodeRefusal.{DecodeRefusal}
 use Rattle.fields.specs.declared.DecodeRefusal.TheVariants.{NoRoom}
-use Rattle.fields.specs.declared.Raw.{Raw}
-use Rattle.fields.specs.declared.Raw.TheVariants as raw
 use Rattle.fields.specs.declared.Shape.{Shape}
 use Rattle.fields.specs.declared.Shape.TheVariants.{Number, Gap, Fixed, Whole, Lau, Lz}
 use Rattle.fields.specs.declared.FieldRead.TheVariants as read
@@ -55,7 +54,7 @@ no h = let z : ◌≡◌ {A = ℕ} 0 1 = cc in absurd (omega arith)
 
 module _ (f : FieldDescriptor) (s : List ℕ) (i at : ℕ) (early : Bool) where
   number_at : (v : ℕ) (d : Cursor) (sh : Shape) → is_number sh ≡ true → read_u64_of s (cursor_at at) f.width ≡ read64.Got v d
-      → read_over (taken_by sh (payload_of s) i early f.width at) sh f (payload_of s) at ≡ read.Got (bits f.width) (raw.Number v) (scale_of f v)
+      → read_over (taken_by sh (payload_of s) i early f.width at) sh f (payload_of s) at ≡ Ok (read.Got (bits f.width) (Some v) (scale_of f v))
   number_at v d (Number strict) h g = sym (number-says f s i at strict (room_at (payload_of s) at f.width)) ∙ ap (number_says f s i at strict) g
   number_at v d Gap h g = no h
   number_at v d Fixed h g = no h
@@ -64,11 +63,11 @@ module _ (f : FieldDescriptor) (s : List ℕ) (i at : ℕ) (early : Bool) where
   number_at v d Lz h g = no h
 
   pub number_read : (v : ℕ) (d : Cursor) → is_number (shape_of f) ≡ true → read_u64_of s (cursor_at at) f.width ≡ read64.Got v d
-      → field_read_of (payload_of s) f i early at ≡ read.Got (bits f.width) (raw.Number v) (scale_of f v)
+      → field_read_of (payload_of s) f i early at ≡ Ok (read.Got (bits f.width) (Some v) (scale_of f v))
   number_read v d h g = number_at v d (shape_of f) h g
 
   gap_at : (d : Cursor) (sh : Shape) → is_gap_lem sh ≡ true → advance_of (length s) (cursor_at at) f.width 64 ≡ moved.To d
-      → read_over (taken_by sh (payload_of s) i early f.width at) sh f (payload_of s) at ≡ read.Skipped (bits f.width)
+      → read_over (taken_by sh (payload_of s) i early f.width at) sh f (payload_of s) at ≡ Ok (read.Skipped (bits f.width))
   gap_at d (Number strict) h g = no h
   gap_at d Gap h g = sym (gap-says f s i at (room_at (payload_of s) at f.width)) ∙ ap (gap_says f s i at) g
   gap_at d Fixed h g = no h
@@ -77,10 +76,10 @@ module _ (f : FieldDescriptor) (s : List ℕ) (i at : ℕ) (early : Bool) where
   gap_at d Lz h g = no h
 
   pub gap-read : (d : Cursor) → is_gap_lem (shape_of f) ≡ true → advance_of (length s) (cursor_at at) f.width 64 ≡ moved.To d
-      → field_read_of (payload_of s) f i early at ≡ read.Skipped (bits f.width)
+      → field_read_of (payload_of s) f i early at ≡ Ok (read.Skipped (bits f.width))
   gap-read d h g = gap_at d (shape_of f) h g
 
-says-by : (p : Payload) (f : FieldDescriptor) (v : ℕ) (x : PgnValue) (sh : Shape) → is_number sh ≡ true → availability_by sh p f (raw.Number v) x ≡ number_availability_of f v
+says-by : (p : Payload) (f : FieldDescriptor) (v : ℕ) (x : PgnValue) (sh : Shape) → is_number sh ≡ true → availability_by sh p f (Some v) x ≡ number_availability_of f v
 says-by p f v x (Number strict) h = refl
 says-by p f v x Gap h = no h
 says-by p f v x Fixed h = no h
@@ -114,23 +113,23 @@ module _ (t : Table) (s : List ℕ) (room i : ℕ) (e : Element) (at made : ℕ)
   kept-none h = h (reading_of t p v) []
 
   module _ (r : ℕ) (d : Cursor) (h : is_number (shape_of f) ≡ true) (g : read_u64_of s (cursor_at at) f.width ≡ read64.Got r d) where
-    got : (early : Bool) → field_read_of p f i early at ≡ read.Got (bits f.width) (raw.Number r) (scale_of f r)
+    got : (early : Bool) → field_read_of p f i early at ≡ Ok (read.Got (bits f.width) (Some r) (scale_of f r))
     got early = number_read f s i at early r d h g
 
     reading-is : reading_of t p v ≡ number_reading i e at f r
     reading-is =
-        let o = told f p at (bits f.width) i false (raw.Number r) (scale_of f r) (got false) in
-        ap₂ (λ (q : Raw) (x : PgnValue). record { field = i; element = e; start = bits at; bits = bits f.width; raw = q; value = x; availability = availability_of p f q x }) (sym o.raw) (sym o.value)
-        ∙ ap (λ a. record { field = i; element = e; start = bits at; bits = bits f.width; raw = raw.Number r; value = scale_of f r; availability = a }) (says-by p f r (scale_of f r) (shape_of f) h)
+        let o = told f p at (bits f.width) i false (Some r) (scale_of f r) (got false) in
+        ap₂ (λ (q : Option ℕ) (x : PgnValue). record { field = i; element = e; start = bits at; bits = bits f.width; raw = q; value = x; availability = availability_of p f q x }) (sym o.raw) (sym o.value)
+        ∙ ap (λ a. record { field = i; element = e; start = bits at; bits = bits f.width; raw = Some r; value = scale_of f r; availability = a }) (says-by p f r (scale_of f r) (shape_of f) h)
 
     pub number-field : (out' : List ℕ) → made < room → out' ≡ puts out (place_at_lem made) (laid (record_of_lem (number_reading i e at f r)))
-        → Field t p room i e at made out f.width 1 (noted_by_lem t e i (raw.Number r)) out'
+        → Field t p room i e at made out f.width 1 (noted_by_lem t e i (Some r)) out'
     number-field out' l q =
-        let o = told f p at (bits f.width) i false (raw.Number r) (scale_of f r) (got false) in
+        let o = told f p at (bits f.width) i false (Some r) (scale_of f r) (got false) in
         let one : readings t p (v ∷ []) ≡ reading_of t p v ∷ [] = kept-one o.kept in
         let near = lies_in f p at (bits f.width) i false o.took in
         record {
-          hits = λ cs last. ap (settled t room i e (progress_at at made cs)) (got last) ∙ checked (ltb made room) (NoRoom i) v (progress_at (at + f.width) (made + 1) (noted_by_lem t e i (raw.Number r) cs)) (lt-ltb _ _ l);
+          hits = λ cs last. ap (settled t room i e (progress_at at made cs)) (got last) ∙ checked (ltb made room) (NoRoom i) v (progress_at (at + f.width) (made + 1) (noted_by_lem t e i (Some r) cs)) (lt-ltb _ _ l);
           makes = ap length one;
           puts = q ∙ ap (puts out (place_at_lem made)) (sym (ap records one ∙ one-record (reading_of t p v) ∙ ap (λ (x : Reading). laid (record_of_lem x)) reading-is));
           near = omega (arith, near.0, near.1);
@@ -199,21 +198,21 @@ module _ (t : Table) (p : Payload) (room : ℕ) (e : Element) (from end : ℕ) (
 module _ (t : Table) (s : List ℕ) (room i : ℕ) (e : Element) (at made : ℕ) (out : List ℕ) where
   pub number_of : (f : FieldDescriptor) → f ≡ t.field i → (r : ℕ) (d : Cursor) → is_number (shape_of f) ≡ true → read_u64_of s (cursor_at at) f.width ≡ read64.Got r d
       → (out' : List ℕ) → made < room → out' ≡ puts out (place_at_lem made) (laid (record_of_lem (number_reading i e at f r)))
-      → Field t (payload_of s) room i e at made out f.width 1 (noted_by_lem t e i (raw.Number r)) out'
+      → Field t (payload_of s) room i e at made out f.width 1 (noted_by_lem t e i (Some r)) out'
   number_of f h r d =
       subst (λ (x : FieldDescriptor). is_number (shape_of x) ≡ true → read_u64_of s (cursor_at at) x.width ≡ read64.Got r d
       → (out' : List ℕ) → made < room → out' ≡ puts out (place_at_lem made) (laid (record_of_lem (number_reading i e at x r)))
-      → Field t (payload_of s) room i e at made out x.width 1 (noted_by_lem t e i (raw.Number r)) out')
+      → Field t (payload_of s) room i e at made out x.width 1 (noted_by_lem t e i (Some r)) out')
       (sym h) (number-field t s room i e at made out r d)
 
   -- .. by its width alone
   pub simple-of : (n : ℕ) → Simple (t.field i) n → (r : ℕ) (d : Cursor) → read_u64_of s (cursor_at at) n ≡ read64.Got r d
       → (out' : List ℕ) → made < room → out' ≡ puts out (place_at_lem made) (laid (number_record i e at n r (simple_words_of n r)))
-      → Field t (payload_of s) room i e at made out n 1 (noted_by_lem t e i (raw.Number r)) out'
+      → Field t (payload_of s) room i e at made out n 1 (noted_by_lem t e i (Some r)) out'
   simple-of n k r d g =
       subst (λ (m : ℕ). read_u64_of s (cursor_at at) m ≡ read64.Got r d → (out' : List ℕ) → made < room
       → out' ≡ puts out (place_at_lem made) (laid (number_record i e at m r (simple_words_of m r)))
-      → Field t (payload_of s) room i e at made out m 1 (noted_by_lem t e i (raw.Number r)) out')
+      → Field t (payload_of s) room i e at made out m 1 (noted_by_lem t e i (Some r)) out')
       k.width
       (λ (h : read_u64_of s (cursor_at at) f.width ≡ read64.Got r d) (out' : List ℕ) (l : made < room) (q : out' ≡ puts out (place_at_lem made) (laid (number_record i e at f.width r (simple_words_of f.width r)))).
       number-field t s room i e at made out r d (number-kind k.kind) h out' l (q ∙ ap (λ (ws : List ℕ). puts out (place_at_lem made) (laid ws)) (number-record i e at f r _ (simple-words f f.width r k.kind k.unscaled k.unsigned refl (omega (arith, k.small, k.width)) (read_below s (cursor_at at) f.width 64 r d h)))))

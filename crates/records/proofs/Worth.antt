@@ -6,6 +6,7 @@ use native.Mathlib.Omega.{arith}
 use lib.Dec.{lit≤}
 use denote.Enum.Declared.{tag_of}
 use types.Run.{OneOf, miss}
+use Rattle.std.specs.Prelude.{Option, Some, None}
 use Rattle.descriptor.specs.contracts.PgnValue.{the_type}
 use Rattle.descriptor.specs.declared.Availability.{Availability}
 use Rattle.descriptor.specs.declared.Availability.TheVariants.{Available, NotAvailable}
@@ -19,8 +20,6 @@ use Rattle.numbers.specs.Special.{number_availability_of}
 use Rattle.numbers.specs.Words.{code_of, word_of_lem, silence_of_lem, words_of, number_words_of}
 use Rattle.numbers.specs.declared.NumberWords.{NumberWords}
 use Rattle.walking.specs.declared.Element.{Element}
-use Rattle.fields.specs.declared.Raw.{Raw}
-use Rattle.fields.specs.declared.Raw.TheVariants as raw
 use Rattle.records.specs.Layout.{raw_mark_lem, encoding_mark_lem, no_bytes_lem, bytes_in_lem, element_word_lem, value_word_lem, record_of_lem, number_reading, number_record}
 
 pub code-small : (v : PgnValue) → code_of v ≤ 11
@@ -48,9 +47,9 @@ words_small v a n e =
     let k : n.code ≡ code_of v = ap (λ (m : NumberWords). m.code) e in
     (omega (arith, s, silence-small a), omega (arith, k, code-small v))
 
-pub given-small : (r : Raw) → raw_mark_lem r ≤ 1
-given-small raw.Absent = lit≤ tt
-given-small (raw.Number n) = lit≤ tt
+pub given-small : (r : Option ℕ) → raw_mark_lem r ≤ 1
+given-small None = lit≤ tt
+given-small (Some n) = lit≤ tt
 
 -- ## A number has no bytes
 

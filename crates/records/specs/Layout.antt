@@ -1,6 +1,6 @@
 -- How readings lie in bytes: a count, then a record for each reading. It is no part of document 01, which leaves the boundary's layout open:
 -- include/samopute.h says the same in C.
-use Rattle.std.specs.Prelude.{ℕ, zero, suc, ◌+◌, ◌-◌, ◌*◌, ◌/◌, ◌%◌, ◌^◌, List, [], ◌∷◌, ◌++◌, ltb, length, drop}
+use Rattle.std.specs.Prelude.{ℕ, zero, suc, ◌+◌, ◌-◌, ◌*◌, ◌/◌, ◌%◌, ◌^◌, List, [], ◌∷◌, ◌++◌, ltb, length, drop, Option, Some, None}
 use Rattle.bits.specs.Bits.{pick}
 use Rattle.bits.specs.Calls.{bits, bytes}
 use Rattle.descriptor.specs.declared.Availability.{Availability}
@@ -16,8 +16,6 @@ use Rattle.numbers.specs.declared.NumberWords.{NumberWords}
 use Rattle.numbers.specs.Words.{code_of, word_of_lem, silence_of_lem}
 use Rattle.walking.specs.declared.Element.{Element}
 use Rattle.walking.specs.declared.Element.TheVariants as element
-use Rattle.fields.specs.declared.Raw.{Raw}
-use Rattle.fields.specs.declared.Raw.TheVariants as raw
 use Rattle.reading.specs.declared.Reading.{Reading}
 
 -- a number in n bytes, the lowest first
@@ -38,14 +36,14 @@ element_word_lem element.Outside = 2 ^ 64 - 1
 element_word_lem (element.At e) = e
 
 -- the raw, 0 where there is none
-abbrev pub raw_word_lem : Raw → ℕ
-raw_word_lem raw.Absent = 0
-raw_word_lem (raw.Number r) = r
+abbrev pub raw_word_lem : Option ℕ → ℕ
+raw_word_lem None = 0
+raw_word_lem (Some r) = r
 
 -- whether there is one
-abbrev pub raw_mark_lem : Raw → ℕ
-raw_mark_lem raw.Absent = 0
-raw_mark_lem (raw.Number r) = 1
+abbrev pub raw_mark_lem : Option ℕ → ℕ
+raw_mark_lem None = 0
+raw_mark_lem (Some r) = 1
 
 -- a text's or bytes' place, length and encoding; a number has none
 abbrev pub no_bytes_lem : PgnBytes
@@ -70,7 +68,7 @@ encoding_mark_lem encoding.Absent = 0
 encoding_mark_lem (encoding.Byte b) = 1 + 2 ^ 8 * b
 
 -- from the lowest byte on: availability, the value's kind, whether there is a raw, whether there is an encoding byte, the encoding byte
-abbrev pub tag_by : Availability → PgnValue → Raw → ℕ
+abbrev pub tag_by : Availability → PgnValue → Option ℕ → ℕ
 tag_by a v r = silence_of_lem a + 2 ^ 8 * code_of v + 2 ^ 16 * raw_mark_lem r + 2 ^ 24 * encoding_mark_lem (bytes_in_lem v).encoding
 
 -- the value's bits, or the place of a text or bytes
@@ -92,7 +90,7 @@ record_of_lem r =
 -- what was read of a number field: the reading of document 01, by its raw
 abbrev pub number_reading : ℕ → Element → ℕ → FieldDescriptor → ℕ → Reading
 number_reading i e at f r =
-    record { field = i; element = e; start = bits at; bits = bits f.width; raw = raw.Number r; value = scale_of f r; availability = number_availability_of f r }
+    record { field = i; element = e; start = bits at; bits = bits f.width; raw = Some r; value = scale_of f r; availability = number_availability_of f r }
 
 -- the record of a number of so many bits, by its raw and the words of its value
 abbrev pub number_record : ℕ → Element → ℕ → ℕ → ℕ → NumberWords → List ℕ

@@ -1,6 +1,6 @@
 -- Stretches of a walk: what the functions that read numbers quickly say of each other. It is no part of document 01: that the quick way comes to
 -- the walk of reading is proofs/Quickly.antt.
-use Rattle.std.specs.Prelude.{◌≡◌, ℕ, ◌+◌, ◌-◌, ◌*◌, ◌≤◌, ◌<◌, Bool, true, false, List, [], ◌∷◌, ◌++◌, ltb, length}
+use Rattle.std.specs.Prelude.{◌≡◌, ℕ, ◌+◌, ◌-◌, ◌*◌, ◌≤◌, ◌<◌, Bool, true, false, List, [], ◌∷◌, ◌++◌, ltb, length, Option, Some}
 use Rattle.bits.specs.Bits.{pick}
 use Rattle.tables.specs.Table.{Table}
 use Rattle.tables.specs.Rules.{in_set}
@@ -10,8 +10,6 @@ use Rattle.walking.specs.declared.Place.TheVariants.{Starts, Inside, Plain}
 use Rattle.walking.specs.declared.Spot.TheVariants.{Within}
 use Rattle.walking.specs.Walk.{hit, place_of}
 use Rattle.fields.specs.Payload.{Payload}
-use Rattle.fields.specs.declared.Raw.{Raw}
-use Rattle.fields.specs.declared.Raw.TheVariants as raw
 use Rattle.reading.specs.declared.Span.{Span}
 use Rattle.reading.specs.declared.Reading.{Reading}
 use Rattle.reading.specs.declared.Progress.{Progress}
@@ -58,7 +56,7 @@ pub record UpTo (c i end r : ℕ) : Type 0 where
 
 -- the fields from i up to r count nothing, whatever is read of them, but for the last of them
 pub record Quiet (t : Table) (e : Element) (i r : ℕ) : Type 0 where
-  pub all : (j : ℕ) → i ≤ j → j + 1 < r → (x : Raw) (cs : List ℕ) → noted_by_lem t e j x cs ≡ cs
+  pub all : (j : ℕ) → i ≤ j → j + 1 < r → (x : Option ℕ) (cs : List ℕ) → noted_by_lem t e j x cs ≡ cs
 
 -- ## What a buffer has room for, and where records stand in it
 
@@ -85,7 +83,7 @@ module _ (t : Table) (p : Payload) (room i : ℕ) (e : Element) (at made : ℕ) 
     pub near : at + n ≤ 524288
 
   abbrev pub QuickSays : Quick → List ℕ → Type 0
-  QuickSays (Took n r) out' = Field n 1 (noted_by_lem t e i (raw.Number r)) out' × (made < room)
+  QuickSays (Took n r) out' = Field n 1 (noted_by_lem t e i (Some r)) out' × (made < room)
   QuickSays (Skipped n) out' = Field n 0 (λ cs. cs) out'
   QuickSays Passed out' = out' ≡ out
 
@@ -105,7 +103,7 @@ pub record Ran (t : Table) (p : Payload) (room : ℕ) (e : Element) (from end : 
   pub low : from ≤ field
   pub high : field ≤ end
 
-abbrev pub stretch_at : ℕ → ℕ → ℕ → Raw → Stretch
+abbrev pub stretch_at : ℕ → ℕ → ℕ → Option ℕ → Stretch
 stretch_at field at made x = record { field = field; at = at; made = made; last = x }
 
 -- the same whatever counters there are, with the last field before the end still to be noted

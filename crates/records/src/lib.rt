@@ -6,7 +6,6 @@
 // a quick one for numbers, proved to come to the same.
 #![tactic(auto)]
 
-use fields::Raw;
 use reading::Decoded;
 
 mod into;
@@ -47,5 +46,5 @@ pub(crate) struct Stretch {
     field: usize,
     at: usize,
     made: usize,
-    last: Raw,
+    last: Option<u64>,
 }

@@ -6,7 +6,6 @@ ghost use Rattle.records.specs.Puts.{puts};
 use crate::layout::put_word;
 use bits::ByteCount;
 use descriptor::{Availability, Encoding, FieldDescriptor, PgnBytes, PgnValue};
-use fields::Raw;
 use numbers::NumberWords;
 use reading::Reading;
 use walking::Element;
@@ -55,23 +54,17 @@ pub fn element_word(e: Element) -> u64
 }
 
 // The raw, 0 if there is none.
-pub fn raw_word(raw: Raw) -> u64
+pub fn raw_word(raw: Option<u64>) -> u64
     ensures { result ≡ raw_word_lem raw }
 {
-    match raw {
-        Raw::Absent => 0,
-        Raw::Number(n) => n,
-    }
+    raw.unwrap_or(0)
 }
 
 // Whether there is a raw.
-pub fn raw_mark(raw: Raw) -> u64
+pub fn raw_mark(raw: Option<u64>) -> u64
     ensures { result ≡ raw_mark_lem raw }
 {
-    match raw {
-        Raw::Absent => 0,
-        Raw::Number(_) => 1,
-    }
+    u64::from(raw.is_some())
 }
 
 fn encoding_mark(encoding: Encoding) -> u64
@@ -159,7 +152,7 @@ pub fn value_word(value: PgnValue) -> u64
     start.0 as u64
 }
 
-fn tag_of(availability: Availability, value: PgnValue, raw: Raw) -> u64
+fn tag_of(availability: Availability, value: PgnValue, raw: Option<u64>) -> u64
     ensures { result ≡ tag_by availability value raw }
 {
     let b = bytes_in(value);

@@ -9,7 +9,6 @@ ghost use Rattle.records.specs.Stretches.{Roomy, QuickSays, Quiet, Runs, stretch
 use crate::{Quick, Stretch, readings};
 use bits::{BitPos, Cursor, Moved, ReadU64};
 use descriptor::FieldDescriptor;
-use fields::Raw;
 use walking::Element;
 
 // Field i, a number at bit `at`.
@@ -151,29 +150,29 @@ pub(crate) fn run(
     let mut i = from;
     let mut at = bit;
     let mut made = count;
-    let mut last = Raw::Absent;
+    let mut last = None;
     while i < end {
         match quick(words, s, room, i, e, at, made, out) {
             Quick::Took { bits, raw } => {
-                last = Raw::Number(raw);
+                last = Some(raw);
                 i += 1;
                 at += bits;
                 made += 1;
             }
             Quick::Skipped { bits } => {
-                last = Raw::Absent;
+                last = None;
                 i += 1;
                 at += bits;
             }
             Quick::Passed => {
-                return stretch(i, at, made, Raw::Absent);
+                return stretch(i, at, made, None);
             }
         }
     }
     stretch(i, at, made, last)
 }
 
-pub(crate) fn stretch(field: usize, at: usize, made: usize, last: Raw) -> Stretch
+pub(crate) fn stretch(field: usize, at: usize, made: usize, last: Option<u64>) -> Stretch
     ensures { result ≡ stretch_at field at made last }
 {
     Stretch {

@@ -12,7 +12,6 @@ ghost use Rattle.records.specs.Clauses.{Turns, Stores};
 
 use crate::{Stretch, readings, runs, stretches};
 use bits::BitPos;
-use fields::Raw;
 use reading::{Answer, Came, Decoded, Next, Progress, Walk};
 use walking::{Element, Spot};
 
@@ -47,9 +46,9 @@ fn element(
             out,
         );
         let field = ran.field;
-        return runs::stretch(field - start, ran.at, ran.made, Raw::Absent);
+        return runs::stretch(field - start, ran.at, ran.made, None);
     }
-    runs::stretch(j, at, made, Raw::Absent)
+    runs::stretch(j, at, made, None)
 }
 
 // The rest of set k, from element e and offset j on, as far as it is quick.

@@ -5,7 +5,6 @@ ghost use Rattle.records.specs.Layout.{raw_mark_lem};
 ghost use Rattle.structs.specs.Structs.{encoding_given, encoding_byte};
 
 use descriptor::{Availability, Encoding, PgnValue};
-use fields::Raw;
 
 pub(crate) fn availability(a: Availability) -> u8
     ensures { result ≡ silence_of_lem a }
@@ -19,7 +18,7 @@ pub(crate) fn value_kind(value: PgnValue) -> u8
     numbers::code_of(value) as u8
 }
 
-pub(crate) fn has_raw(raw: Raw) -> u8
+pub(crate) fn has_raw(raw: Option<u64>) -> u8
     ensures { result ≡ raw_mark_lem raw }
 {
     records::raw_mark(raw) as u8

@@ -9,6 +9,7 @@ use native.Mathlib.Omega.{arith}
 use lib.ListN.{length}
 use lib.Dec.{eqb}
 use borrow.Author.Tests.{le-ltb}
+use Rattle.std.specs.Prelude.{Some, None, Result, Ok}
 use Rattle.bits.specs.Bits.{pick}
 use Rattle.bits.specs.Calls.{bits}
 use Rattle.bits.specs.declared.BitPos.{BitPos}
@@ -23,13 +24,11 @@ use Rattle.numbers.specs.declared.RawOf.TheVariants as rawed
 use Rattle.tables.specs.Table.{Table}
 use Rattle.tables.specs.Check.{payload_max}
 use Rattle.walking.specs.declared.Element.{Element}
+use Rattle.fields.specs.declared.DecodeRefusal.{DecodeRefusal}
 use Rattle.fields.specs.declared.FieldRead.{FieldRead}
 use Rattle.fields.specs.declared.FieldRead.TheVariants as read
-use Rattle.fields.specs.declared.Raw.TheVariants as raw
 use Rattle.fields.specs.declared.Shape.{Shape}
 use Rattle.fields.specs.declared.Shape.TheVariants as shape
-use Rattle.fields.specs.declared.Taken.{Taken}
-use Rattle.fields.specs.declared.Taken.TheVariants.{Took}
 use Rattle.fields.specs.Payload.{Payload}
 use Rattle.fields.specs.Shapes.{shape_of}
 use Rattle.fields.specs.Taken.{taken_by, taken_of}
@@ -54,10 +53,10 @@ use Rattle.writing.proofs.BytesBack.{part_bytes, filled-bytes, Stand, stand-head
 use Rattle.writing.proofs.FieldTaken.{number-took, gap-took, fixed-took, whole-took, lz-took, lau-took, absent-took}
 
 -- a field of which that was written is read as this
-pub data ReadsAs (f : FieldDescriptor) (x : FieldRead) : Weighed → Type 0 where
-  as_number : {n : BitPos} {r : ℕ} → x ≡ read.Got n (raw.Number r) (scale_of f r) → ReadsAs f x (Number n r)
-  as-gap : {n : BitPos} → x ≡ read.Skipped n → ReadsAs f x (Gap n)
-  as-text : {n : BitPos} {lead : Lead} {b : PgnBytes} (v : PgnValue) → x ≡ read.Got n raw.Absent v → ReadsAs f x (Text n lead b)
+pub data ReadsAs (f : FieldDescriptor) (x : Result FieldRead DecodeRefusal) : Weighed → Type 0 where
+  as_number : {n : BitPos} {r : ℕ} → x ≡ Ok (read.Got n (Some r) (scale_of f r)) → ReadsAs f x (Number n r)
+  as-gap : {n : BitPos} → x ≡ Ok (read.Skipped n) → ReadsAs f x (Gap n)
+  as-text : {n : BitPos} {lead : Lead} {b : PgnBytes} (v : PgnValue) → x ≡ Ok (read.Got n None v) → ReadsAs f x (Text n lead b)
   as-refused : {e : EncodeRefusal} → ReadsAs f x (Refused e)
 
 -- `G` is what is known of a value that is offered: its raw has no bit past the field's width, its encoding byte is a byte
@@ -90,13 +89,13 @@ module _ (G : PgnValue → Type 0) (byte_fits : (b : PgnBytes) (x : ℕ) → G (
         stand-head p at (length (text_in_lem lent b) + 2) (x ∷ text_in_lem lent b) (omega (arith, q, l)) h.inked ∙ ap (λ (k : ℕ). k + 2) q
 
     -- it takes the bits that it was written in
-    takes : (last : Bool) {sh : Shape} {w : Weighed} → M sh w → H w → Kept w → taken_by sh p i last f.width at ≡ Took (size_of w).0
+    takes : (last : Bool) {sh : Shape} {w : Weighed} → M sh w → H w → Kept w → taken_by sh p i last f.width at ≡ Ok (size_of w).0
     takes last (a-number {strict = strict} v g q l m) h k = number-took p small i last f.width at strict l m h.inside
     takes last (a-gap l m) h k = gap-took p small i last f.width at l m h.inside
     takes last (a-fixed a l m) h k = fixed-took p small i last f.width at a h.inside
     takes last (a-whole {b = b} a q m) h k =
         let z : 8 * (f.width / 8) ≡ f.width = omega (arith, q) in
-        whole-took p small i last f.width at a (omega (arith, z, h.inside)) ∙ ap Took z
+        whole-took p small i last f.width at a (omega (arith, z, h.inside)) ∙ ap Ok z
     takes last (a-lz {b = b} l a m) h k = lz-took p small i last f.width at b.len.0 l a h.inside (lz-length b l m h) (lz-zero b m h)
     takes last (a-lau {b = b} {x = x} g q l a m) h k = lau-took p small i last f.width at b.len.0 l a h.inside (lau-length b x l m h)
     takes last (an-absent q m) h k = absent-took p small i last f.width at h.inside (stand-head p at 1 [] (omega arith) h.inked)
@@ -110,12 +109,12 @@ module _ (G : PgnValue → Type 0) (byte_fits : (b : PgnBytes) (x : ℕ) → G (
     raw-is (a-number v {r = r} g q l m) h = raw-in v r g q m h
 
     -- what is read of it
-    over : (sh : Shape) {x : Taken} {n : ℕ} → x ≡ Took n → read_over x sh f p at ≡ read_as sh f p at n
-    over sh q = ap (λ (y : Taken). read_over y sh f p at) q
+    over : (sh : Shape) {x : Result ℕ DecodeRefusal} {n : ℕ} → x ≡ Ok n → read_over x sh f p at ≡ Ok (read_as sh f p at n)
+    over sh q = ap (λ (y : Result ℕ DecodeRefusal). read_over y sh f p at) q
 
-    reads-by : {sh : Shape} {w : Weighed} → M sh w → H w → (x : Taken) → (Kept w → x ≡ Took (size_of w).0) → ReadsAs f (read_over x sh f p at) w
+    reads-by : {sh : Shape} {w : Weighed} → M sh w → H w → (x : Result ℕ DecodeRefusal) → (Kept w → x ≡ Ok (size_of w).0) → ReadsAs f (read_over x sh f p at) w
     reads-by (a-number {strict = strict} v {r = r} g q l m) h x k =
-        as_number (over (shape.Number strict) (k tt) ∙ ap (λ (y : ℕ). read.Got (bits f.width) (raw.Number y) (scale_of f y)) (raw-in v r g q m h))
+        as_number (over (shape.Number strict) (k tt) ∙ ap (λ (y : ℕ). Ok (read.Got (bits f.width) (Some y) (scale_of f y))) (raw-in v r g q m h))
     reads-by (a-gap l m) h x k = as-gap (over shape.Gap (k tt))
     reads-by (a-fixed a l m) h x k = as-text _ (over shape.Fixed (k tt))
     reads-by (a-whole a q m) h x k = as-text _ (over shape.Whole (k tt))
@@ -165,7 +164,7 @@ module _ (G : PgnValue → Type 0) (byte_fits : (b : PgnBytes) (x : ℕ) → G (
 
     -- a reading of it
     is-back : (r : Reading) {sh : Shape} {w : Weighed} → M sh w → H w → Kept w → r.raw ≡ raw_in sh p at (size_of w).0 → r.value ≡ value_in sh f p at (size_of w).0 → Back p lent r w
-    is-back r (a-number v {r = n} g q l m) h k x y = x ∙ ap raw.Number (raw-in v n g q m h)
+    is-back r (a-number v {r = n} g q l m) h k x y = x ∙ ap Some (raw-in v n g q m h)
     is-back r (a-gap l m) h k x y = tt
     is-back r (a-fixed {b = b} a l m) h k x y =
         record { place = _; value = y; none = x; encoded = refl; bytes = bare-bytes b (8 * (f.width / 8)) a (omega (arith, l)) m h }
@@ -189,7 +188,7 @@ module _ (G : PgnValue → Type 0) (byte_fits : (b : PgnBytes) (x : ℕ) → G (
     meant = subst (Meant G (t.field i) (length lent) at (shape_of (t.field i))) (sym says) (content-meant G (t.field i) (length lent) at i size o known)
 
     -- the same bits are taken ..
-    pub taken_back : (last : Bool) → Kept w → taken_of p (t.field i) i last at ≡ Took (size_of w).0
+    pub taken_back : (last : Bool) → Kept w → taken_of p (t.field i) i last at ≡ Ok (size_of w).0
     taken_back last k = takes G byte_fits p small lent bytes (t.field i) (raw-fits i l) e i at last meant held k
 
     -- .. the same is read ..

@@ -5,26 +5,26 @@ use Prim.Native.Nat.{ℕ, ◌+◌, ◌-◌, ◌*◌, ◌/◌, ◌%◌, ◌≤◌
 use native.Mathlib.Omega.{arith}
 use lib.Dec.{eqb, ltb}
 use borrow.Author.Tests.{le-ltb, eqb-false}
+use Rattle.std.specs.Prelude.{Result, Ok}
 use Rattle.bits.specs.Bits.{pick}
 use Rattle.bits.specs.declared.Room.{Room}
 use Rattle.bits.specs.declared.Room.TheVariants as room
 use Rattle.bits.proofs.Rooms.{room_fits, slice_fits}
+use Rattle.fields.specs.declared.DecodeRefusal.{DecodeRefusal}
 use Rattle.fields.specs.declared.Shape.TheVariants as shape
-use Rattle.fields.specs.declared.Taken.{Taken}
-use Rattle.fields.specs.declared.Taken.TheVariants.{Took}
 use Rattle.fields.specs.Payload.{Payload, bits_left}
 use Rattle.fields.specs.Taken.{if_room_lem, short_of, if_length, room_at, bytes_room_lem, text_room_lem, fixed_bytes_lem, closed_at_lem, taken_by}
 use Rattle.tables.specs.Check.{payload_max}
 
 -- what follows a test that says nothing against it
-room-if : (r : Room) (i : ℕ) (later : Taken) → r ≡ room.Fits → if_room_lem r i later ≡ later
+room-if : (r : Room) (i : ℕ) (later : Result ℕ DecodeRefusal) → r ≡ room.Fits → if_room_lem r i later ≡ later
 room-if r i later h = ap (λ (x : Room). if_room_lem x i later) h
 
-room-short : (strict : Bool) (i : ℕ) (r : Room) (later : Taken) → r ≡ room.Fits → short_of strict i r later ≡ later
+room-short : (strict : Bool) (i : ℕ) (r : Room) (later : Result ℕ DecodeRefusal) → r ≡ room.Fits → short_of strict i r later ≡ later
 room-short true i r later h = ap (λ (x : Room). short_of true i x later) h
 room-short false i r later h = ap (λ (x : Room). short_of false i x later) h
 
-length-if : (i len : ℕ) (later : Taken) → len ≤ payload_max → if_length i len later ≡ later
+length-if : (i len : ℕ) (later : Result ℕ DecodeRefusal) → len ≤ payload_max → if_length i len later ≡ later
 length-if i len later l = rw (le-ltb payload_max len l)
 
 module _ (p : Payload) (small : p.size ≤ payload_max) where
@@ -53,30 +53,30 @@ module _ (p : Payload) (small : p.size ≤ payload_max) where
       go false = refl
 
   module _ (i : ℕ) (early : Bool) (w at : ℕ) where
-    pub number-took : (strict : Bool) → 0 < w → w ≤ 64 → at + w ≤ p.size * 8 → taken_by (shape.Number strict) p i early w at ≡ Took w
-    number-took strict l m k = room-short strict i (room_at p at w) (Took w) (bits-room at w l m k)
+    pub number-took : (strict : Bool) → 0 < w → w ≤ 64 → at + w ≤ p.size * 8 → taken_by (shape.Number strict) p i early w at ≡ Ok w
+    number-took strict l m k = room-short strict i (room_at p at w) (Ok w) (bits-room at w l m k)
 
-    pub gap-took : 0 < w → w ≤ 64 → at + w ≤ p.size * 8 → taken_by shape.Gap p i early w at ≡ Took w
-    gap-took l m k = room-if (room_at p at w) i (Took w) (bits-room at w l m k)
+    pub gap-took : 0 < w → w ≤ 64 → at + w ≤ p.size * 8 → taken_by shape.Gap p i early w at ≡ Ok w
+    gap-took l m k = room-if (room_at p at w) i (Ok w) (bits-room at w l m k)
 
-    pub fixed-took : at % 8 ≡ 0 → at + 8 * (w / 8) ≤ p.size * 8 → taken_by shape.Fixed p i early w at ≡ Took (8 * (w / 8))
-    fixed-took a k = rw (fixed-all early at w k) (room-if (bytes_room_lem p at (w / 8)) i (Took (8 * (w / 8))) (bytes-room at (w / 8) a k))
+    pub fixed-took : at % 8 ≡ 0 → at + 8 * (w / 8) ≤ p.size * 8 → taken_by shape.Fixed p i early w at ≡ Ok (8 * (w / 8))
+    fixed-took a k = rw (fixed-all early at w k) (room-if (bytes_room_lem p at (w / 8)) i (Ok (8 * (w / 8))) (bytes-room at (w / 8) a k))
 
-    pub whole-took : at % 8 ≡ 0 → at + 8 * (w / 8) ≤ p.size * 8 → taken_by shape.Whole p i early w at ≡ Took (8 * (w / 8))
-    whole-took a k = room-if (bytes_room_lem p at (w / 8)) i (Took (8 * (w / 8))) (bytes-room at (w / 8) a k)
+    pub whole-took : at % 8 ≡ 0 → at + 8 * (w / 8) ≤ p.size * 8 → taken_by shape.Whole p i early w at ≡ Ok (8 * (w / 8))
+    whole-took a k = room-if (bytes_room_lem p at (w / 8)) i (Ok (8 * (w / 8))) (bytes-room at (w / 8) a k)
 
     -- by its length byte, and the zero after the text
     pub lz-took : (n : ℕ) → n ≤ 221 → (0 < n → at % 8 ≡ 0) → at + (16 + 8 * n) ≤ p.size * 8 → p.bits at 8 ≡ n → p.bits (at + (8 + 8 * n)) 8 ≡ 0
-        → taken_by shape.Lz p i early w at ≡ Took (16 + 8 * n)
+        → taken_by shape.Lz p i early w at ≡ Ok (16 + 8 * n)
     lz-took n l a k h z =
         let closed : closed_at_lem p at (8 + 8 * n) ≡ 16 + 8 * n = rw (bits-room (at + (8 + 8 * n)) 8 (omega arith) (omega arith) (omega (arith, k)), z) (omega arith) in
         rw (bits-room at 8 (omega arith) (omega arith) (omega (arith, k)), h)
         (length-if i n _ (omega (arith, l))
         ∙ room-if (text_room_lem p (at + 8) n) i _ (text-room (at + 8) n (λ m. let q = a m in omega arith) (omega (arith, k)))
-        ∙ ap Took closed)
+        ∙ ap Ok closed)
 
     -- by its length byte
-    pub lau-took : (n : ℕ) → n ≤ 221 → (0 < n → at % 8 ≡ 0) → at + (16 + 8 * n) ≤ p.size * 8 → p.bits at 8 ≡ n + 2 → taken_by shape.Lau p i early w at ≡ Took (16 + 8 * n)
+    pub lau-took : (n : ℕ) → n ≤ 221 → (0 < n → at % 8 ≡ 0) → at + (16 + 8 * n) ≤ p.size * 8 → p.bits at 8 ≡ n + 2 → taken_by shape.Lau p i early w at ≡ Ok (16 + 8 * n)
     lau-took n l a k h =
         let two : n + 2 - 2 ≡ n = omega arith in
         rw (bits-room at 8 (omega arith) (omega arith) (omega (arith, k)), h)
@@ -85,5 +85,5 @@ module _ (p : Payload) (small : p.size ≤ payload_max) where
         (room-if (room_at p (at + 8) 8) i _ (bits-room (at + 8) 8 (omega arith) (omega arith) (omega (arith, k)))
         ∙ room-if (text_room_lem p (at + 16) n) i _ (text-room (at + 16) n (λ m. let q = a m in omega arith) (omega (arith, k)))))
 
-    pub absent-took : at + 8 ≤ p.size * 8 → p.bits at 8 ≡ 1 → taken_by shape.Lau p i early w at ≡ Took 8
+    pub absent-took : at + 8 ≤ p.size * 8 → p.bits at 8 ≡ 1 → taken_by shape.Lau p i early w at ≡ Ok 8
     absent-took k h = rw (bits-room at 8 (omega arith) (omega arith) (omega (arith, k)), h)

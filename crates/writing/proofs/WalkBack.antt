@@ -7,6 +7,7 @@ use Prim.Native.Nat.{ℕ, ◌+◌, ◌*◌, ◌^◌, ◌≤◌, ◌<◌}
 use native.Mathlib.Omega.{arith}
 use lib.ListN.{length}
 use borrow.Author.Tests.{lt-ltb}
+use Rattle.std.specs.Prelude.{None, Result, Ok}
 use Rattle.descriptor.specs.declared.PgnValue.{PgnValue}
 use Rattle.numbers.specs.Conversions.{raw_of_lem}
 use Rattle.numbers.specs.declared.RawOf.TheVariants as rawed
@@ -23,10 +24,7 @@ use Rattle.walking.proofs.Visits.{All, all_append, all_left}
 use Rattle.walking.proofs.Lawful.{Looks, plain, member, lawful-fields, lawful-ran}
 use Rattle.walking.proofs.Paired.{Follows, runs-paired}
 use Rattle.fields.specs.declared.DecodeRefusal.{DecodeRefusal}
-use Rattle.fields.specs.declared.Raw.TheVariants as raw
 use Rattle.fields.specs.declared.Shape.{Shape}
-use Rattle.fields.specs.declared.Taken.{Taken}
-use Rattle.fields.specs.declared.Taken.TheVariants.{Took}
 use Rattle.fields.specs.Payload.{Payload}
 use Rattle.fields.specs.Shapes.{shape_of}
 use Rattle.fields.specs.Taken.{taken_of}
@@ -63,7 +61,7 @@ looks-in : (t : Table) → check_of t ≡ checked.Accepted → (i : ℕ) (e : El
 looks-in t ok i e last (plain l) = l
 looks-in t ok i e last (member k x j l m) = let p = placed t ok k l in omega (arith, p.inside)
 
-noted-none : (t : Table) (e : Element) (i : ℕ) (cs : List ℕ) → noted_by_lem t e i raw.Absent cs ≡ cs
+noted-none : (t : Table) (e : Element) (i : ℕ) (cs : List ℕ) → noted_by_lem t e i None cs ≡ cs
 noted-none t Outside i cs = refl
 noted-none t (At x) i cs = refl
 
@@ -82,7 +80,7 @@ module _ (lent : ℕ) (t : Table) (p : Payload) (room i : ℕ) (e : Element) (s 
   stood = progress_at s.at.0 made s.counters
 
   abbrev read : Shape → Weighed → One Span Progress DecodeRefusal
-  read sh x = decode.settled t room i e stood (read_as sh (t.field i) p s.at.0 (size_of x).0)
+  read sh x = decode.settled t room i e stood (Ok (read_as sh (t.field i) p s.at.0 (size_of x).0))
 
   abbrev stands : Shape → Weighed → Progress
   stands sh x = progress_at (pen_after_lem t i e s x).at.0 (made + unskipped sh) (pen_after_lem t i e s x).counters
@@ -131,7 +129,7 @@ module _ (t : Table) (ok : check_of t ≡ checked.Accepted) (offered : ℕ → O
   abbrev P : Mark → Type 0
   P = Penned t offered (length lent) size
 
-  takes : (m : Mark) (last : Bool) → P m → Holds p lent m → taken_of p (t.field m.field) m.field last m.start ≡ Took (size_of m.content).0
+  takes : (m : Mark) (last : Bool) → P m → Holds p lent m → taken_of p (t.field m.field) m.field last m.start ≡ Ok (size_of m.content).0
   takes m last a h = taken_back Held byted t raws-fit p small lent texts size m.field a.known m.element m.start (offered a.turn) (known a.turn) m.content (sym a.weighed) h last a.kept
 
   raws : (m : Mark) → P m → Holds p lent m → RawBack p m.start m.content
@@ -179,7 +177,7 @@ module _ (t : Table) (ok : check_of t ≡ checked.Accepted) (offered : ℕ → O
         let z' = progress_at z.at.0 (s'.made + unskipped sh) z.counters in (
           z',
           ap (decode.one_of t p room i e last) q.same
-              ∙ ap (λ (o : Taken). decode.settled t room i e (progress_at at s'.made s.counters) (read_over o sh f p at)) (takes k last a g)
+              ∙ ap (λ (o : Result ℕ DecodeRefusal). decode.settled t room i e (progress_at at s'.made s.counters) (read_over o sh f p at)) (takes k last a g)
               ∙ settled_back (length lent) t p room i e s s'.made y w.kept (raws k a g) r
               ∙ ap₂ (λ (y : Mark) (u : Pen). hit (span_of y) (progress_at u.at.0 (s'.made + unskipped sh) u.counters)) (sym w.mark) (sym w.pen),
           record {

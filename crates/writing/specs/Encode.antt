@@ -1,6 +1,6 @@
 -- Encoding: document 01, "Writing a payload". The fields met, each with what is written there, up to the end or to the first refusal; and the
 -- buffer, made of them. The answer goes by table, values, the length of the lent text and the room, and never by the buffer's bytes.
-use Rattle.std.specs.Prelude.{ℕ, ◌+◌, ◌/◌, Bool, List, [], ◌∷◌, ltb, length, replicate, get_or, Result, Ok, Err}
+use Rattle.std.specs.Prelude.{ℕ, ◌+◌, ◌/◌, Bool, List, [], ◌∷◌, ltb, length, replicate, get_or, Result, Ok, Err, Some}
 use Rattle.bits.specs.declared.ByteCount.{ByteCount}
 use Rattle.bits.specs.Bits.{pick}
 use Rattle.bits.specs.Calls.{bits, bytes, saturated}
@@ -14,7 +14,6 @@ use Rattle.tables.specs.declared.Checked.TheVariants as checked
 use Rattle.walking.specs.declared.Element.{Element}
 use Rattle.walking.specs.Runs.{Run, ran, stopped}
 use Rattle.walking.specs.Walk.{One, hit, miss, walk_from}
-use Rattle.fields.specs.declared.Raw.TheVariants as raw
 use Rattle.fields.specs.Shapes.{shape_of, is_gap_lem}
 use Rattle.reading.specs.Groups.{noted_by_lem}
 use Rattle.weighing.specs.declared.EncodeRefusal.{EncodeRefusal}
@@ -56,7 +55,7 @@ content_of_lem o f i lent size at = pick (is_gap_lem (shape_of f)) (gap_of f i s
 
 -- where the pen stands once that is written: its value is used. That number saturates, since a step takes any walk
 abbrev pub pen_after_lem : Table → ℕ → Element → Pen → Weighed → Pen
-pen_after_lem t i e s (weighed.Number n r) = pen_at (s.at.0 + n.0) (saturated (s.used + 1)) (noted_by_lem t e i (raw.Number r) s.counters)
+pen_after_lem t i e s (weighed.Number n r) = pen_at (s.at.0 + n.0) (saturated (s.used + 1)) (noted_by_lem t e i (Some r) s.counters)
 pen_after_lem t i e s (weighed.Gap n) = pen_at (s.at.0 + n.0) s.used s.counters
 pen_after_lem t i e s (weighed.Text n lead b) = pen_at (s.at.0 + n.0) (saturated (s.used + 1)) s.counters
 pen_after_lem t i e s (weighed.Refused f) = s

@@ -2,7 +2,7 @@
 -- writes, the first bytes used of the buffer, decode reads: the same fields, elements, spans and raw numbers, the same LZ, LAU and Binary bytes,
 -- a StringFix as its text followed by the fill, ending where encode ended; the table's filling included. Definitions only: that it holds is
 -- `proofs/ReadsBack.antt`.
-use Rattle.std.specs.Prelude.{◌≡◌, ℕ, zero, suc, ◌-◌, ◌*◌, ◌/◌, ◌≤◌, ◌<◌, List, [], ◌∷◌, ◌++◌, length, replicate, take}
+use Rattle.std.specs.Prelude.{◌≡◌, ℕ, zero, suc, ◌-◌, ◌*◌, ◌/◌, ◌≤◌, ◌<◌, List, [], ◌∷◌, ◌++◌, length, replicate, take, Some, None}
 use Rattle.descriptor.specs.declared.Encoding.{Encoding}
 use Rattle.descriptor.specs.declared.Encoding.TheVariants as encoding
 use Rattle.descriptor.specs.declared.PgnBytes.{PgnBytes}
@@ -12,7 +12,6 @@ use Rattle.numbers.specs.Held.{Held}
 use Rattle.tables.specs.Table.{Table}
 use Rattle.tables.specs.Check.{payload_max}
 use Rattle.walking.specs.Runs.{ran}
-use Rattle.fields.specs.declared.Raw.TheVariants as raw
 use Rattle.fields.specs.Payload.{Payload, payload_of}
 use Rattle.reading.specs.declared.Reading.{Reading}
 use Rattle.reading.specs.declared.Span.{Span}
@@ -60,13 +59,13 @@ encoding_back Empty = encoding.Absent
 pub record TextBack (p : Payload) (r : Reading) (text : List ℕ) (enc : Encoding) : Type 0 where
   pub place : PgnBytes
   pub value : r.value ≡ Bytes place
-  pub none : r.raw ≡ raw.Absent
+  pub none : r.raw ≡ None
   pub encoded : place.encoding ≡ enc
   pub bytes : bytes_at p place.start.0 place.len.0 ≡ text
 
 -- "the same raw numbers": a reading of what was written
 abbrev pub Back : Payload → List ℕ → Reading → Weighed → Type 0
-Back p lent r (Number n x) = r.raw ≡ raw.Number x
+Back p lent r (Number n x) = r.raw ≡ Some x
 Back p lent r (Gap n) = Unit {0}
 Back p lent r (Text n lead b) = TextBack p r (text_back lead n.0 (text_in_lem lent b)) (encoding_back lead)
 Back p lent r (Refused e) = ⊥

@@ -10,7 +10,6 @@ use crate::ink::put_weighed;
 use crate::{Draft, Pen, Stroke, Stroked, Weighing};
 use bits::BitPos;
 use descriptor::FieldDescriptor;
-use fields::Raw;
 use offers::Offer;
 use reading::Span;
 use walking::{Element, Look, Spot};
@@ -95,7 +94,7 @@ fn pen_after(words: &[u64], i: usize, e: Element, pen: Pen, weighed: Weighed) ->
     let cs = pen.counters;
     match weighed {
         Weighed::Number { bits, raw } => {
-            let counters = reading::noted_by(words, e, i, Raw::Number(raw), cs);
+            let counters = reading::noted_by(words, e, i, Some(raw), cs);
             let to = at + bits.0;
             Pen {
                 at: BitPos(to),

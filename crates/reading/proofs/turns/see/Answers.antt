@@ -4,7 +4,9 @@ use mathlib.Core.Bool.{Bool}
 use mathlib.Core.List.{List}
 use Prim.Native.Nat.{ℕ, ◌+◌}
 use native.Mathlib.Omega.{arith}
+use Rattle.std.specs.Prelude.{Result, Ok}
 use Rattle.tables.specs.Table.{table_of}
+use Rattle.fields.specs.declared.DecodeRefusal.{DecodeRefusal}
 use Rattle.fields.specs.declared.FieldRead.{FieldRead}
 use Rattle.fields.specs.Payload.{Payload, payload_of}
 use Rattle.descriptor.specs.declared.FieldDescriptor.{FieldDescriptor}
@@ -18,22 +20,22 @@ use Rattle.reading.proofs.Turned.{see-met, see-full, see-gone, see-refused}
 use Rattle.reading.proofs.turns.see.Goals as goal
 
 -- a field's answer, once code has it by the field's descriptor
-was : (p : Payload) (i : ℕ) (last : Bool) (at : ℕ) {f g : FieldDescriptor} {r v : FieldRead} → g ≡ f → r ≡ field_read_of p g i last at → r ≡ v → field_read_of p f i last at ≡ v
+was : (p : Payload) (i : ℕ) (last : Bool) (at : ℕ) {f g : FieldDescriptor} {r v : Result FieldRead DecodeRefusal} → g ≡ f → r ≡ field_read_of p g i last at → r ≡ v → field_read_of p f i last at ≡ v
 was p i last at e h k = sym (ap (λ (x : FieldDescriptor). field_read_of p x i last at) e) ∙ sym h ∙ k
 
 pub reading_of-reading-requires : goal.reading_of-reading-requires
 reading_of-reading-requires c =
     let p = payload_of c.args.s.now in
     let f = (table_of c.args.words.now).field c.args.i in
-    let h = told f p c.args.p.at.0 c.in-Got.bits c.args.i c.args.last c.in-Got.raw c.in-Got.value (was _ _ _ _ c.field_at-f.ensures c.read_field_raw_and_value.ensures c.in-Got.is) in
+    let h = told f p c.args.p.at.0 c.in-Ok-Got.bits c.args.i c.args.last c.in-Ok-Got.raw c.in-Ok-Got.value (was _ _ _ _ c.field_at-f.ensures c.read_field_raw_and_value.ensures (c.in-Ok-Got.is ∙ ap Ok c.in-Ok-Got.field-0-is)) in
     (h.raw, h.value)
 
 pub overflow_add-to_at : goal.overflow_add-to_at
 overflow_add-to_at c =
     let p = payload_of c.args.s.now in
     let f = (table_of c.args.words.now).field c.args.i in
-    let h = told f p c.args.p.at.0 c.in-Got.bits c.args.i c.args.last c.in-Got.raw c.in-Got.value (was _ _ _ _ c.field_at-f.ensures c.read_field_raw_and_value.ensures c.in-Got.is) in
-    let l = lies_in f p c.args.p.at.0 c.in-Got.bits c.args.i c.args.last h.took in
+    let h = told f p c.args.p.at.0 c.in-Ok-Got.bits c.args.i c.args.last c.in-Ok-Got.raw c.in-Ok-Got.value (was _ _ _ _ c.field_at-f.ensures c.read_field_raw_and_value.ensures (c.in-Ok-Got.is ∙ ap Ok c.in-Ok-Got.field-0-is)) in
+    let l = lies_in f p c.args.p.at.0 c.in-Ok-Got.bits c.args.i c.args.last h.took in
     record { fits = omega (arith, l.0, l.1) }
 
 pub returns-then-made-room : goal.returns-then-made-room
@@ -41,26 +43,26 @@ returns-then-made-room c =
     let t = table_of c.args.words.now in
     let p = payload_of c.args.s.now in
     c.next.ensures
-    ∙ ap₂ (λ (r : Reading) (cs : List ℕ). next_to (Met r) c.args.to (progress_at (c.args.p.at.0 + c.in-Got.bits.0) (c.args.p.made + 1) cs)) c.reading_of-reading.ensures c.noted_by-counters.ensures
-    ∙ see-met t p c.args.room c.args.here c.args.to c.args.i c.args.e c.args.last c.args.p c.in-Got.bits c.in-Got.raw c.in-Got.value (was _ _ _ _ c.field_at-f.ensures c.read_field_raw_and_value.ensures c.in-Got.is) c.if-made-room.true
+    ∙ ap₂ (λ (r : Reading) (cs : List ℕ). next_to (Met r) c.args.to (progress_at (c.args.p.at.0 + c.in-Ok-Got.bits.0) (c.args.p.made + 1) cs)) c.reading_of-reading.ensures c.noted_by-counters.ensures
+    ∙ see-met t p c.args.room c.args.here c.args.to c.args.i c.args.e c.args.last c.args.p c.in-Ok-Got.bits c.in-Ok-Got.raw c.in-Ok-Got.value (was _ _ _ _ c.field_at-f.ensures c.read_field_raw_and_value.ensures (c.in-Ok-Got.is ∙ ap Ok c.in-Ok-Got.field-0-is)) c.if-made-room.true
 
 pub returns-else-made-room : goal.returns-else-made-room
 returns-else-made-room c =
     let t = table_of c.args.words.now in
     let p = payload_of c.args.s.now in
-    c.next-in-Got.ensures
-    ∙ see-full t p c.args.room c.args.here c.args.to c.args.i c.args.e c.args.last c.args.p c.in-Got.bits c.in-Got.raw c.in-Got.value (was _ _ _ _ c.field_at-f.ensures c.read_field_raw_and_value.ensures c.in-Got.is) c.if-made-room.false
+    c.next-in-Ok-Got.ensures
+    ∙ see-full t p c.args.room c.args.here c.args.to c.args.i c.args.e c.args.last c.args.p c.in-Ok-Got.bits c.in-Ok-Got.raw c.in-Ok-Got.value (was _ _ _ _ c.field_at-f.ensures c.read_field_raw_and_value.ensures (c.in-Ok-Got.is ∙ ap Ok c.in-Ok-Got.field-0-is)) c.if-made-room.false
 
-pub returns-in-Skipped : goal.returns-in-Skipped
-returns-in-Skipped c =
+pub returns-in-Ok-Skipped : goal.returns-in-Ok-Skipped
+returns-in-Ok-Skipped c =
     let t = table_of c.args.words.now in
     let p = payload_of c.args.s.now in
-    c.next-in-Skipped.ensures
-    ∙ see-gone t p c.args.room c.args.here c.args.to c.args.i c.args.e c.args.last c.args.p c.in-Skipped.bits (was _ _ _ _ c.field_at-f.ensures c.read_field_raw_and_value.ensures c.in-Skipped.is)
+    c.next-in-Ok-Skipped.ensures
+    ∙ see-gone t p c.args.room c.args.here c.args.to c.args.i c.args.e c.args.last c.args.p c.in-Ok-Skipped.bits (was _ _ _ _ c.field_at-f.ensures c.read_field_raw_and_value.ensures (c.in-Ok-Skipped.is ∙ ap Ok c.in-Ok-Skipped.field-0-is))
 
-pub returns-in-Refused : goal.returns-in-Refused
-returns-in-Refused c =
+pub returns-in-Err : goal.returns-in-Err
+returns-in-Err c =
     let t = table_of c.args.words.now in
     let p = payload_of c.args.s.now in
-    c.next-in-Refused.ensures
-    ∙ see-refused t p c.args.room c.args.here c.args.to c.args.i c.args.e c.args.last c.args.p _ (was _ _ _ _ c.field_at-f.ensures c.read_field_raw_and_value.ensures c.in-Refused.is)
+    c.next-in-Err.ensures
+    ∙ see-refused t p c.args.room c.args.here c.args.to c.args.i c.args.e c.args.last c.args.p _ (was _ _ _ _ c.field_at-f.ensures c.read_field_raw_and_value.ensures c.in-Err.is)

@@ -3,8 +3,8 @@ use mathlib.Core.Path.{◌≡◌, refl, sym, subst}
 use mathlib.Core.List.{List}
 use Prim.Native.Nat.{ℕ, ◌+◌}
 use native.Mathlib.Omega.{arith}
+use Rattle.std.specs.Prelude.{None}
 use Rattle.tables.specs.Table.{table_of}
-use Rattle.fields.specs.declared.Raw.TheVariants as raw
 use Rattle.fields.specs.Payload.{payload_of}
 use Rattle.records.specs.declared.Quick.{Quick}
 use Rattle.records.specs.declared.Stretch.{Stretch}
@@ -30,8 +30,8 @@ loop-i-preserved c =
     let y = (subst (λ (y : Quick). QuickSays (table_of c.args.words.now) (payload_of c.args.s.now) c.args.room c.loop-i.i c.args.e c.loop-i.at c.loop-i.made c.loop-i.out y c.quick.new.out) c.in-Skipped.is c.quick.ensures) in
     let e : c.loop-i.made + 0 ≡ c.loop-i.made = omega arith in (
       roomy-on c.args.room c.loop-i.out _ _ c.quick.new.out c.loop-i.invariant.0 y.puts,
-      subst (λ (m : ℕ). Passing t p c.args.room c.args.e c.args.from c.args.end c.args.bit c.args.count c.args.out.now (c.loop-i.i + 1) (c.loop-i.at + c.in-Skipped.bits) m raw.Absent c.quick.new.out) e
-          (passing-more t p c.args.room c.args.e c.args.from c.args.end c.args.bit c.args.count c.args.out.now c.loop-i.i c.loop-i.at c.loop-i.made c.loop-i.last c.loop-i.out c.loop-i.invariant.1 c.loop-i-test.true c.requires.1.0 c.in-Skipped.bits 0 (λ cs. cs) raw.Absent (λ cs. sym (absent t c.args.e c.loop-i.i cs)) c.quick.new.out y),
+      subst (λ (m : ℕ). Passing t p c.args.room c.args.e c.args.from c.args.end c.args.bit c.args.count c.args.out.now (c.loop-i.i + 1) (c.loop-i.at + c.in-Skipped.bits) m None c.quick.new.out) e
+          (passing-more t p c.args.room c.args.e c.args.from c.args.end c.args.bit c.args.count c.args.out.now c.loop-i.i c.loop-i.at c.loop-i.made c.loop-i.last c.loop-i.out c.loop-i.invariant.1 c.loop-i-test.true c.requires.1.0 c.in-Skipped.bits 0 (λ cs. cs) None (λ cs. sym (absent t c.args.e c.loop-i.i cs)) c.quick.new.out y),
     )
 
 pub returns-in-Passed : goal.returns-in-Passed
