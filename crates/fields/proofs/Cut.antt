@@ -6,6 +6,7 @@ use Prim.Native.Nat.{ℕ, zero, suc, ◌+◌, ◌-◌, ◌*◌, ◌%◌, ◌≤�
 use native.Mathlib.Omega.{arith}
 use lib.Dec.{eqb, leb, ltb}
 use borrow.Author.Tests.{le-ltb, leb-true, eqb-true, ne_eqb}
+use Rattle.std.specs.Prelude.{Ok}
 use Rattle.bits.specs.Bits.{pick}
 use Rattle.bits.specs.Calls.{bits, refuse, room_of, width_max}
 use Rattle.bits.specs.declared.BitRefusal.TheVariants.{OutOfBits}
@@ -15,7 +16,6 @@ use Rattle.descriptor.specs.declared.FieldKind.TheVariants as kind
 use Rattle.tables.specs.Table.{Table}
 use Rattle.tables.specs.Rules.{class_of_lem, within, whole_bytes_lem, width_fits_lem}
 use Rattle.tables.specs.Check.{check_of, payload_max}
-use Rattle.tables.specs.declared.Checked.TheVariants.{Accepted}
 use Rattle.tables.proofs.Accepted.{between, widths}
 use Rattle.fields.specs.declared.Shape.{Shape}
 use Rattle.fields.specs.declared.Shape.TheVariants.{Number, Whole}
@@ -67,7 +67,7 @@ room-only size at w l a b =
     let n : w ≡ 0 → ⊥ = λ z. omega (arith, z, a) in
     rw (le-ltb 65536 size m, ne_eqb w 0 n, le-ltb 64 w b)
 
-pub cut_short : (t : Table) → check_of t ≡ Accepted → (i : ℕ) → i < t.count → in_bits (shape_of (t.field i)) ≡ true → (size : ℕ) → size ≤ payload_max → (at : ℕ)
+pub cut_short : (t : Table) → check_of t ≡ Ok tt → (i : ℕ) → i < t.count → in_bits (shape_of (t.field i)) ≡ true → (size : ℕ) → size ≤ payload_max → (at : ℕ)
     → room_of size at (t.field i).width width_max ≡ refuse (ltb (size * 8) (at + (t.field i).width)) (OutOfBits (bits (t.field i).width) (bits (size * 8 - at))) room.Fits
 cut_short t ok i l s size small at =
     let w = bits-width (t.field i).kind (t.field i).width s (widths t ok i l) in

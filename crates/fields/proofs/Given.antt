@@ -15,7 +15,6 @@ use Rattle.bits.specs.declared.Room.{Room}
 use Rattle.bits.specs.declared.Room.TheVariants as room
 use Rattle.tables.specs.Table.{Table}
 use Rattle.tables.specs.Check.{check_of, payload_max}
-use Rattle.tables.specs.declared.Checked.TheVariants.{Accepted}
 use Rattle.fields.specs.declared.DecodeRefusal.{DecodeRefusal}
 use Rattle.fields.specs.declared.DecodeRefusal.TheVariants.{BitReaderError, InvalidDataLength, RepetitionsExceedCapacity, WrongLength, TableRefused, NoRoom}
 use Rattle.fields.specs.Payload.{Payload}
@@ -39,7 +38,7 @@ beyond size at w true = beyond-bits
 beyond size at w false = fits
 
 -- a number or a skipped field
-pub bits-fair : (t : Table) → check_of t ≡ Accepted → (i : ℕ) → i < t.count → in_bits (shape_of (t.field i)) ≡ true → (size : ℕ) → size ≤ payload_max → (at : ℕ)
+pub bits-fair : (t : Table) → check_of t ≡ Ok tt → (i : ℕ) → i < t.count → in_bits (shape_of (t.field i)) ≡ true → (size : ℕ) → size ≤ payload_max → (at : ℕ)
     → Fair (room_of size at (t.field i).width width_max)
 bits-fair t ok i l s size small at =
     subst Fair (sym (cut_short t ok i l s size small at)) (beyond size at (t.field i).width (ltb (size * 8) (at + (t.field i).width)))
@@ -79,7 +78,7 @@ given_by (Err (WrongLength n)) h = absurd h
 given_by (Err (TableRefused rule index)) h = absurd h
 given_by (Err (NoRoom i)) h = absurd h
 
-pub field-given : (t : Table) → check_of t ≡ Accepted → (i : ℕ) → i < t.count → (p : Payload) → p.size ≤ payload_max → (early : Bool) (at : ℕ) → Given (taken_of p (t.field i) i early at)
+pub field-given : (t : Table) → check_of t ≡ Ok tt → (i : ℕ) → i < t.count → (p : Payload) → p.size ≤ payload_max → (early : Bool) (at : ℕ) → Given (taken_of p (t.field i) i early at)
 field-given t ok i l p small early at =
     given_by (taken_of p (t.field i) i early at)
     (taken-meets Fair p (λ (place : ℕ). Unit {0}) fits (byte-fair p small) (λ place next e h. tt) (λ place n w. bytes-fair p small place n)

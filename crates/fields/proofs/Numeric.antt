@@ -4,6 +4,7 @@ use mathlib.Core.Path.{◌≡◌, refl}
 use mathlib.Core.Bool.{Bool, true, false, not, false≢true}
 use Prim.Native.Nat.{ℕ, ◌%◌, ◌<◌}
 use lib.Dec.{eqb}
+use Rattle.std.specs.Prelude.{Ok}
 use Rattle.bits.specs.Bits.{pick}
 use Rattle.descriptor.specs.declared.FieldKind.{FieldKind}
 use Rattle.descriptor.specs.declared.FieldKind.TheVariants as kind
@@ -13,7 +14,6 @@ use Rattle.numbers.proofs.Numeric as numbers
 use Rattle.tables.specs.Table.{Table}
 use Rattle.tables.specs.Rules.{class_of_lem, known}
 use Rattle.tables.specs.Check.{check_of}
-use Rattle.tables.specs.declared.Checked.TheVariants.{Accepted}
 use Rattle.tables.proofs.Accepted.{kinds, widths}
 use Rattle.fields.specs.declared.Shape.{Shape}
 use Rattle.fields.specs.declared.Shape.TheVariants.{Number, Gap, Fixed, Whole, Lau, Lz}
@@ -53,7 +53,7 @@ in-bits Whole h = h
 in-bits Lau h = h
 in-bits Lz h = h
 
-pub holds-number : (t : Table) → check_of t ≡ Accepted → (i : ℕ) → i < t.count → is_number (shape_of (t.field i)) ≡ true → holds_of (t.field i) ≡ holds.Number
+pub holds-number : (t : Table) → check_of t ≡ Ok tt → (i : ℕ) → i < t.count → is_number (shape_of (t.field i)) ≡ true → holds_of (t.field i) ≡ holds.Number
 holds-number t ok i l s =
     let f = t.field i in
     let w = bits-width f.kind f.width (in-bits (shape_of f) s) (widths t ok i l) in

@@ -1,9 +1,8 @@
 // A payload's lines, by a built-in message.
-ghost use Rattle.std.specs.Prelude.{◌≡◌};
+ghost use Rattle.std.specs.Prelude.{◌≡◌, Ok};
 ghost use Rattle.text.specs.Sheet.{Puts};
 ghost use Rattle.tables.specs.Table.{table_of};
 ghost use Rattle.tables.specs.Check.{check_of};
-ghost use Rattle.tables.specs.declared.Checked.TheVariants.{Accepted};
 ghost use Rattle.messages.specs.Messages.{words_of};
 ghost use Rattle.fields.specs.Payload.{payload_of};
 ghost use Rattle.reading.specs.Demand3.{room_enough_lem};
@@ -28,7 +27,7 @@ fn put_turn(out: &mut [u8], at: usize, answer: Answer, end: usize) -> usize
 
 // All lines of the walk through a payload, by an accepted table.
 fn put_walk(words: &[u64], payload: &[u8], room: usize, out: &mut [u8], at: usize) -> usize
-    requires { check_of (table_of words.now) ≡ Accepted }
+    requires { check_of (table_of words.now) ≡ Ok tt }
     ensures { Puts out.old at (walk_text (table_of words.now) (payload_of payload.now) room) out.new result }
 {
     let mut walk = reading::start();

@@ -2,7 +2,7 @@
 -- Assumes nothing.
 use mathlib.Core.Path.{◌≡◌, refl}
 use lib.Ieee.{of_bits, of_fields, odd, le, lt, eq}
-use Rattle.tables.specs.declared.Checked.TheVariants.{Accepted}
+use Rattle.std.specs.Prelude.{Ok}
 use Rattle.tables.specs.Table.{table_of}
 use Rattle.tables.specs.Rules.{in_sets_lem, declared_bits_lem}
 use Rattle.tables.specs.Check.{found_from, check_of}
@@ -10,7 +10,7 @@ use Rattle.messages.specs.declared.Message.{Message}
 use Rattle.messages.specs.declared.Message.TheVariants.{M129025, M129026, M129029, M130900}
 use Rattle.messages.specs.Messages.{words_of}
 
-pub accepted : (m : Message) → check_of (table_of (words_of m)) ≡ Accepted
+pub accepted : (m : Message) → check_of (table_of (words_of m)) ≡ Ok tt
 unfolding found_from in_sets_lem declared_bits_lem of_bits of_fields odd le lt eq
 accepted M129025 = refl
 accepted M129026 = refl

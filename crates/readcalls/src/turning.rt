@@ -1,10 +1,9 @@
 // The decode turn by turn, with a line for each reading.
-ghost use Rattle.std.specs.Prelude.{◌≡◌};
+ghost use Rattle.std.specs.Prelude.{◌≡◌, Ok};
 ghost use mathlib.Core.List.{flat_map};
 ghost use Rattle.text.specs.Sheet.{Puts};
 ghost use Rattle.tables.specs.Table.{table_of};
 ghost use Rattle.tables.specs.Check.{check_of};
-ghost use Rattle.tables.specs.declared.Checked.TheVariants.{Accepted};
 ghost use Rattle.reading.specs.Steps.{handed};
 ghost use Rattle.readcalls.specs.Lines.{reading_line};
 ghost use Rattle.readcalls.specs.Clauses.{Walks, Turns};
@@ -34,7 +33,7 @@ fn put_turn(out: &mut [u8], at: usize, answer: Answer) -> usize
 
 // The walk through the working payload s, by an accepted table.
 fn put_walk(words: &[u64], s: &[u8], room: usize, out: &mut [u8], at: usize) -> Turned
-    requires { check_of (table_of words.now) ≡ Accepted }
+    requires { check_of (table_of words.now) ≡ Ok tt }
     ensures { Walks result out.new words.now s.now room out.old at }
 {
     let mut walk = reading::start();

@@ -16,7 +16,6 @@ use Rattle.bits.proofs.Rooms.{Fitting, fitting, room_fits}
 use Rattle.bits.proofs.Laws.{length-written}
 use Rattle.tables.specs.Table.{Table}
 use Rattle.tables.specs.Check.{check_of, payload_max}
-use Rattle.tables.specs.declared.Checked.TheVariants.{Accepted}
 use Rattle.walking.specs.Runs.{Run, ran, stopped}
 use Rattle.fields.specs.declared.DecodeRefusal.{DecodeRefusal}
 use Rattle.fields.specs.declared.DecodeRefusal.TheVariants.{NoRoom}
@@ -139,7 +138,7 @@ two_runs t received padded room us v ws s d free x =
 -- ## Room
 
 -- with room for 1,785 readings 9 is never given: a payload has at most 223 bytes, and `never-full` says why one more than its bits is enough
-never-by-run : (t : Table) → check_of t ≡ Accepted → (p : Payload) → p.size ≤ payload_max → (room : ℕ) → room_enough_lem ≤ room → (i n : ℕ) (w : Run Span Progress DecodeRefusal)
+never-by-run : (t : Table) → check_of t ≡ Ok tt → (p : Payload) → p.size ≤ payload_max → (room : ℕ) → room_enough_lem ≤ room → (i n : ℕ) (w : Run Span Progress DecodeRefusal)
     → walk_of t p room ≡ w → end_of t p w ≡ decoded.Refused (NoRoom i) n → ⊥
 never-by-run t ok p small room enough i n (ran vs s) w e = let z : ◌≡◌ {A = ℕ} 0 1 = cc in omega arith
 never-by-run t ok p small room enough i n (stopped vs f) w e =
@@ -156,6 +155,6 @@ module _ (t : Table) (received padded : List ℕ) (room : ℕ) (enough : room_en
   enough-room h = full-by-prepared (prepared_of t (length received) (length padded)) refl h
 
 -- nor is it by a turn, at any place of the walk from `start` on
-pub enough-turn : (t : Table) → check_of t ≡ Accepted → (p : Payload) → p.size ≤ payload_max → (room : ℕ) → room_enough_lem ≤ room → (w : Walk) → Going t p room w → (i : ℕ)
+pub enough-turn : (t : Table) → check_of t ≡ Ok tt → (p : Payload) → p.size ≤ payload_max → (room : ℕ) → room_enough_lem ≤ room → (w : Walk) → Going t p room w → (i : ℕ)
     → (next_of t p room w).answer ≡ answer.Refused (NoRoom i) → ⊥
 enough-turn t ok p small room enough w g i h = never-by-run t ok p small room enough i _ (walk_of t p room) refl ((turned t p room ok w g).stops (NoRoom i) h)

@@ -10,7 +10,6 @@ use Rattle.std.specs.Prelude.{Option, Some, None, Result, Ok}
 use Rattle.descriptor.specs.declared.FieldDescriptor.{FieldDescriptor}
 use Rattle.tables.specs.Table.{Table}
 use Rattle.tables.specs.Check.{check_of, set_max}
-use Rattle.tables.specs.declared.Checked.TheVariants.{Accepted}
 use Rattle.walking.specs.declared.Element.{Element}
 use Rattle.walking.specs.declared.Element.TheVariants.{Outside, At}
 use Rattle.walking.specs.Runs.{ran}
@@ -131,7 +130,7 @@ module _ (t : Table) (room m : ℕ) (b b' : ℕ → ℕ → ℕ) where
 
   -- ## One number changed
 
-  module _ (ok : check_of t ≡ Accepted) (us : List Span) (v : Span) (ws : List Span) (s : Progress) (run : walk_of t p room ≡ ran (us ++ v ∷ ws) s)
+  module _ (ok : check_of t ≡ Ok tt) (us : List Span) (v : Span) (ws : List Span) (s : Progress) (run : walk_of t p room ≡ ran (us ++ v ∷ ws) s)
       (strict : Bool) (number : shape_of (t.field v.field) ≡ Number strict) (other : Uncounted t v.field)
       (below : (lo hi : ℕ) → hi ≤ v.start.0 → Agree b b' lo hi) (above : (lo hi : ℕ) → past v ≤ lo → Agree b b' lo hi) where
     -- the spans before it end where it starts or earlier, those after it start where it ends or later

@@ -9,7 +9,6 @@ use Rattle.std.specs.Prelude.{Ok}
 use Rattle.bits.specs.Bits.{bits_at, written}
 use Rattle.tables.specs.Table.{Table}
 use Rattle.tables.specs.Check.{check_of}
-use Rattle.tables.specs.declared.Checked.TheVariants.{Accepted}
 use Rattle.walking.specs.Runs.{ran}
 use Rattle.walking.proofs.Visits.{all_right}
 use Rattle.fields.specs.Payload.{Payload, payload_of}
@@ -26,7 +25,7 @@ use Rattle.reading.proofs.Changed.{kept}
 use Rattle.reading.proofs.Received.{working-fills, still-long, agree-below, agree-above, new-bits}
 
 -- under any filling that keeps the received bytes and adds to them by their number alone
-module _ (fill : List ℕ → List ℕ) (f : Filling fill) (t : Table) (ok : check_of t ≡ Accepted) (received : List ℕ) (room : ℕ) where
+module _ (fill : List ℕ → List ℕ) (f : Filling fill) (t : Table) (ok : check_of t ≡ Ok tt) (received : List ℕ) (room : ℕ) where
   change : (us : List Span) (v : Span) (ws : List Span) (s : Progress) → walk_of t (payload_of (fill received)) room ≡ ran (us ++ v ∷ ws) s → Free t received v → (x : ℕ)
       → Kept t (payload_of (fill received)) (payload_of (fill (written received v.start.0 v.bits.0 x))) room us v ws s x
   change us v ws s run free x =

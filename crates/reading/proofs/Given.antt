@@ -9,13 +9,11 @@ use native.Mathlib.Omega.{arith}
 use lib.Dec.{eqb, ltb}
 use lib.ListN.{length}
 use borrow.Author.Tests.{eqb-true}
-use Rattle.std.specs.Prelude.{Err}
+use Rattle.std.specs.Prelude.{Err, Ok}
 use Rattle.bits.specs.Bits.{pick}
 use Rattle.bits.specs.Calls.{bytes}
 use Rattle.tables.specs.Table.{Table}
-use Rattle.tables.specs.Check.{check_of, payload_max}
-use Rattle.tables.specs.declared.Checked.{Checked}
-use Rattle.tables.specs.declared.Checked.TheVariants as checked
+use Rattle.tables.specs.Check.{Checked, check_of, payload_max}
 use Rattle.walking.specs.Runs.{stopped}
 use Rattle.fields.specs.declared.DecodeRefusal.{DecodeRefusal}
 use Rattle.fields.specs.declared.DecodeRefusal.TheVariants.{WrongLength, TableRefused}
@@ -48,7 +46,7 @@ apart n g h = go (eqb n 7) (eqb n 8) refl refl h
 
 -- ## The walk
 
-module _ (t : Table) (ok : check_of t ≡ checked.Accepted) (p : Payload) (small : p.size ≤ payload_max) (room : ℕ) where
+module _ (t : Table) (ok : check_of t ≡ Ok tt) (p : Payload) (small : p.size ≤ payload_max) (room : ℕ) where
   walk-gives : (vs : List Span) (f : DecodeRefusal) → walk_of t p room ≡ stopped vs f → Gives f
   walk-gives = walk-refusal t p room Gives
       (λ i e last at f l w h. subst Given h (field-given t ok i (in_table t ok i e last l) p small last at)) (λ i. refl) (λ k n m. refl)
@@ -62,8 +60,8 @@ prepared-spares t received padded f h = go (ltb payload_max received) (eqb padde
         → pick a (Err (WrongLength (bytes received))) (pick b (by_check c) (Err (WrongLength (bytes padded)))) ≡ Err f → Spares f
     go true b c e = let k : WrongLength (bytes received) ≡ f = cc in subst Spares k refl
     go false false c e = let k : WrongLength (bytes padded) ≡ f = cc in subst Spares k refl
-    go false true checked.Accepted e = let k : ◌≡◌ {A = ℕ} 0 1 = cc in absurd (omega arith)
-    go false true (checked.Refused rule index) e = let k : TableRefused rule index ≡ f = cc in subst Spares k refl
+    go false true (Ok tt) e = let k : ◌≡◌ {A = ℕ} 0 1 = cc in absurd (omega arith)
+    go false true (Err b) e = let k : TableRefused b.rule b.index ≡ f = cc in subst Spares k refl
 
 or-true : (b : Bool) → b || true ≡ true
 or-true true = refl

@@ -8,13 +8,13 @@ use Prim.Native.Nat.{ℕ, ◌+◌, ◌-◌, ◌*◌, ◌/◌, ◌%◌, ◌≤◌
 use native.Mathlib.Omega.{arith}
 use lib.Dec.{eqb, leb, ltb}
 use borrow.Author.Tests.{leb-true, eq-eqb, le-leb, lt-ltb}
+use Rattle.std.specs.Prelude.{Ok}
 use Rattle.bits.specs.Bits.{pick}
 use Rattle.descriptor.specs.declared.FieldKind.{FieldKind}
 use Rattle.descriptor.specs.declared.FieldKind.TheVariants as kind
 use Rattle.tables.specs.Table.{Table}
 use Rattle.tables.specs.Rules.{class_of_lem, within, whole_bytes_lem, width_fits_lem, in_set}
 use Rattle.tables.specs.Check.{check_of}
-use Rattle.tables.specs.declared.Checked.TheVariants.{Accepted}
 use Rattle.tables.proofs.Accepted as accepted
 use Rattle.tables.proofs.Accepted.{placed, widths}
 use Rattle.tables.proofs.Searches.{in_one}
@@ -104,7 +104,7 @@ fewest-least Whole p w at = omega arith
 fewest-least Lau p w at = omega arith
 fewest-least Lz p w at = omega arith
 
-module _ (t : Table) (ok : check_of t ≡ Accepted) where
+module _ (t : Table) (ok : check_of t ≡ Ok tt) where
   -- a field met is one of the table's
   pub in_table : (i : ℕ) (e : Element) (last : Bool) → Looks t t.count i e last → i < t.count
   in_table i e last (plain l) = l

@@ -10,7 +10,6 @@ use Rattle.std.specs.Prelude.{Result, Ok, Err}
 use Rattle.bits.specs.Bits.{pick}
 use Rattle.tables.specs.Table.{Table}
 use Rattle.tables.specs.Check.{check_of}
-use Rattle.tables.specs.declared.Checked.TheVariants.{Accepted}
 use Rattle.tables.proofs.Accepted.{sizes, placed}
 use Rattle.walking.specs.declared.Element.{Element}
 use Rattle.walking.specs.declared.Place.TheVariants.{Starts}
@@ -46,7 +45,7 @@ use Rattle.reading.proofs.Told.{told, gone}
 use Rattle.reading.proofs.Working.{readied}
 
 -- an accepted table's sets are small
-pub small : (t : Table) → check_of t ≡ Accepted → (i k : ℕ) → place_of t i ≡ Starts k → ((t.set k).size ≤ 64) × ((t.set k).maximum ≤ 255)
+pub small : (t : Table) → check_of t ≡ Ok tt → (i k : ℕ) → place_of t i ≡ Starts k → ((t.set k).size ≤ 64) × ((t.set k).maximum ≤ 255)
 small t ok i k e =
     let p = placed t ok k (starts-one t i k e) in
     let s = sizes t ok in
@@ -261,7 +260,7 @@ module _ (t : Table) (p : Payload) (room : ℕ) where
         stops = λ x o. let is : b ≡ x = cc in ap (end_of t p) run ∙ ap₂ decoded.Refused is (count-done w g ∙ ap (λ (s : Progress). s.made) same);
       }
 
-  module _ (ok : check_of t ≡ Accepted) where
+  module _ (ok : check_of t ≡ Ok tt) where
     pub turned : (w : Walk) (g : Going w) → Turned w g (next_of t p room w)
     turned w g =
         turned_by w g (turn_of t p room w.spot w.progress) refl

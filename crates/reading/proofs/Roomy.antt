@@ -7,13 +7,11 @@ use Prim.Native.Nat.{ℕ, ◌+◌, ◌*◌, ◌≤◌, ◌<◌}
 use native.Mathlib.Omega.{arith}
 use lib.ListN.{length}
 use lib.Dec.{ltb, eqb}
-use Rattle.std.specs.Prelude.{Err}
+use Rattle.std.specs.Prelude.{Err, Ok}
 use Rattle.bits.specs.Bits.{pick}
 use Rattle.bits.specs.Calls.{bytes}
 use Rattle.tables.specs.Table.{Table}
-use Rattle.tables.specs.Check.{check_of, payload_max}
-use Rattle.tables.specs.declared.Checked.{Checked}
-use Rattle.tables.specs.declared.Checked.TheVariants as checked
+use Rattle.tables.specs.Check.{Checked, check_of, payload_max}
 use Rattle.walking.specs.Runs.{Run, ran, stopped}
 use Rattle.walking.proofs.Visits.{All, Ending}
 use Rattle.fields.specs.declared.DecodeRefusal.{DecodeRefusal}
@@ -60,7 +58,7 @@ one-most Lz = omega arith
 -- ## Room
 
 -- fields of a bit or more are no more than the bits
-module _ (t : Table) (ok : check_of t ≡ checked.Accepted) (p : Payload) (room : ℕ) where
+module _ (t : Table) (ok : check_of t ≡ Ok tt) (p : Payload) (room : ℕ) where
   few : (vs : List Span) → All (Right t p room) vs → All (Early t ok p room) vs → unskipped_in t vs ≤ total vs
   unfolding unskipped_in total
   few [] r h = omega arith
@@ -122,5 +120,5 @@ never-prepared t received padded i h = go (ltb payload_max received) (eqb padded
     go : (a b : Bool) (c : Checked) → pick a (Err (WrongLength (bytes received))) (pick b (by_check c) (Err (WrongLength (bytes padded)))) ≡ Err (NoRoom i) → ⊥
     go true b c e = let z : ◌≡◌ {A = ℕ} 0 1 = cc in omega arith
     go false false c e = let z : ◌≡◌ {A = ℕ} 0 1 = cc in omega arith
-    go false true checked.Accepted e = let z : ◌≡◌ {A = ℕ} 0 1 = cc in omega arith
-    go false true (checked.Refused rule index) e = let z : ◌≡◌ {A = ℕ} 0 1 = cc in omega arith
+    go false true (Ok tt) e = let z : ◌≡◌ {A = ℕ} 0 1 = cc in omega arith
+    go false true (Err b) e = let z : ◌≡◌ {A = ℕ} 0 1 = cc in omega arith

@@ -12,7 +12,6 @@ use Rattle.std.specs.Prelude.{Result, Ok, Err}
 use Rattle.descriptor.specs.declared.FieldDescriptor.{FieldDescriptor}
 use Rattle.tables.specs.Table.{Table}
 use Rattle.tables.specs.Check.{check_of, payload_max}
-use Rattle.tables.specs.declared.Checked.TheVariants.{Accepted}
 use Rattle.walking.specs.declared.Element.{Element}
 use Rattle.walking.specs.Runs.{Run, ran, stopped}
 use Rattle.walking.specs.Walk.{hit, miss, check, walk_from}
@@ -87,7 +86,7 @@ module _ (t : Table) (p : Payload) (room : ℕ) (P : DecodeRefusal → Type 0)
 -- ## All of it
 
 module _ (t : Table) (received padded : List ℕ) (room : ℕ) (f : DecodeRefusal) (n : ℕ) (P : DecodeRefusal → Type 0)
-    (walk : check_of t ≡ Accepted → (payload_of (working_of t received)).size ≤ payload_max → (vs : List Span)
+    (walk : check_of t ≡ Ok tt → (payload_of (working_of t received)).size ≤ payload_max → (vs : List Span)
     → walk_of t (payload_of (working_of t received)) room ≡ stopped vs f → P f) where
   abbrev working : Payload
   working = payload_of (working_of t received)

@@ -12,9 +12,7 @@ use borrow.Author.Tests.{ltb-true, ltb-false, eqb-true}
 use Rattle.std.specs.Prelude.{Result, Ok, Err}
 use Rattle.bits.specs.Bits.{pick}
 use Rattle.tables.specs.Table.{Table}
-use Rattle.tables.specs.Check.{check_of, payload_max}
-use Rattle.tables.specs.declared.Checked.{Checked}
-use Rattle.tables.specs.declared.Checked.TheVariants as checked
+use Rattle.tables.specs.Check.{Checked, check_of, payload_max}
 use Rattle.tables.proofs.Accepted.{sizes}
 use Rattle.fields.specs.declared.DecodeRefusal.{DecodeRefusal}
 use Rattle.reading.specs.Filling.{fills, working_of, padded_of, picked_of, by_check, prepared_of, kept_unless, run_after}
@@ -30,15 +28,15 @@ met : (b : Bool) (later : Result (Unit {0}) DecodeRefusal) (e : DecodeRefusal) �
 met true later e h = (refl, h)
 met false later e h = cc
 
-by-check : (c : Checked) → by_check c ≡ Ok tt → c ≡ checked.Accepted
-by-check checked.Accepted h = refl
-by-check (checked.Refused rule index) h = cc
+by-check : (c : Checked) → by_check c ≡ Ok tt → c ≡ Ok tt
+by-check (Ok tt) h = refl
+by-check (Err b) h = cc
 
 -- what they rule out
 pub record Readied (t : Table) (received padded : ℕ) : Type 0 where
   pub payload : received ≤ payload_max
   pub run : padded ≡ payload_max
-  pub table : check_of t ≡ checked.Accepted
+  pub table : check_of t ≡ Ok tt
 
 pub readied : (t : Table) (received padded : ℕ) → prepared_of t received padded ≡ Ok tt → Readied t received padded
 readied t received padded h =
@@ -84,7 +82,7 @@ module _ (t : Table) (received padded : List ℕ) (ready : prepared_of t (length
   picked-working = picked-by (fills t (length received)) refl
 
   -- it is read by an accepted table
-  pub ready-accepted : check_of t ≡ checked.Accepted
+  pub ready-accepted : check_of t ≡ Ok tt
   ready-accepted = (readied t (length received) (length padded) ready).table
 
   working-by : (b : Bool) → fills t (length received) ≡ b → length (working_of t received) ≤ payload_max

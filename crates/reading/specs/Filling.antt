@@ -3,9 +3,7 @@ use Rattle.std.specs.Prelude.{ℕ, ◌-◌, List, ◌++◌, Bool, ◌&&◌, leng
 use Rattle.bits.specs.Bits.{pick}
 use Rattle.bits.specs.Calls.{bytes}
 use Rattle.tables.specs.Table.{Table}
-use Rattle.tables.specs.Check.{check_of, payload_max}
-use Rattle.tables.specs.declared.Checked.{Checked}
-use Rattle.tables.specs.declared.Checked.TheVariants as checked
+use Rattle.tables.specs.Check.{Checked, check_of, payload_max}
 use Rattle.fields.specs.declared.DecodeRefusal.{DecodeRefusal}
 use Rattle.fields.specs.declared.DecodeRefusal.TheVariants.{WrongLength, TableRefused}
 
@@ -27,8 +25,8 @@ picked_of t received padded = pick (fills t (length received)) (take t.length pa
 
 -- refusal 8
 abbrev pub by_check : Checked → Result (Unit {0}) DecodeRefusal
-by_check checked.Accepted = Ok tt
-by_check (checked.Refused rule index) = Err (TableRefused rule index)
+by_check (Ok tt) = Ok tt
+by_check (Err b) = Err (TableRefused b.rule b.index)
 
 -- "payload [..] over 223 bytes, or padding run not of 223", "length (payload's first)"; "7, 8, then the walk"
 abbrev pub prepared_of : Table → ℕ → ℕ → Result (Unit {0}) DecodeRefusal

@@ -1,8 +1,7 @@
 // A payload from its first field to the end.
-ghost use Rattle.std.specs.Prelude.{◌≡◌};
+ghost use Rattle.std.specs.Prelude.{◌≡◌, Ok};
 ghost use Rattle.tables.specs.Table.{table_of};
 ghost use Rattle.tables.specs.Check.{check_of};
-ghost use Rattle.tables.specs.declared.Checked.TheVariants as checked;
 ghost use Rattle.reading.specs.Demand3.{room_enough_lem};
 ghost use Rattle.reading.specs.Clauses.{Decodes, walked_by};
 
@@ -10,7 +9,7 @@ use crate::{Came, Decoded, ROOM_ENOUGH, filling, turns};
 
 // The walk through the working payload s, by an accepted table.
 fn walked(words: &[u64], s: &[u8], room: usize) -> Decoded
-    requires { check_of (table_of words.now) ≡ checked.Accepted }
+    requires { check_of (table_of words.now) ≡ Ok tt }
     ensures { result ≡ walked_by words.now s.now room }
 {
     let mut walk = turns::start();

@@ -6,7 +6,7 @@ ghost use Rattle.reading.specs.Clauses.{Prepares};
 
 use bits::ByteCount;
 use fields::DecodeRefusal;
-use tables::Checked;
+use tables::BrokenRule;
 
 // Whether a payload of so many bytes is filled.
 pub fn is_filled(words: &[u64], received: usize) -> bool
@@ -40,8 +40,8 @@ fn prepared(words: &[u64], received: usize, padded: usize) -> Result<(), DecodeR
         });
     }
     match tables::check(words) {
-        Checked::Accepted => Ok(()),
-        Checked::Refused { rule, index } => Err(DecodeRefusal::TableRefused { rule, index }),
+        Ok(()) => Ok(()),
+        Err(BrokenRule { rule, index }) => Err(DecodeRefusal::TableRefused { rule, index }),
     }
 }
 

@@ -11,7 +11,6 @@ use Rattle.bits.specs.Bits.{pick}
 use Rattle.bits.specs.Calls.{bytes}
 use Rattle.tables.specs.Table.{Table}
 use Rattle.tables.specs.Check.{check_of, payload_max}
-use Rattle.tables.specs.declared.Checked.TheVariants.{Accepted}
 use Rattle.fields.specs.declared.DecodeRefusal.{DecodeRefusal}
 use Rattle.fields.specs.declared.DecodeRefusal.TheVariants.{WrongLength}
 use Rattle.reading.specs.Filling.{working_of, by_check, prepared_of}
@@ -32,7 +31,7 @@ module _ (t : Table) (received padded : ℕ) where
   pub wrong-run : received ≤ payload_max → (padded ≡ payload_max → ⊥) → Err (WrongLength (bytes padded)) ≡ prepared_of t received padded
   wrong-run l n = sym (ap (λ (b : Bool). pick b (by_check (check_of t)) (Err (WrongLength (bytes padded)))) (ne_eqb _ _ n)) ∙ fits l
 
-  pub ready : received ≤ payload_max → padded ≡ payload_max → check_of t ≡ Accepted → Ok tt ≡ prepared_of t received padded
+  pub ready : received ≤ payload_max → padded ≡ payload_max → check_of t ≡ Ok tt → Ok tt ≡ prepared_of t received padded
   ready l e ok =
       sym (ap by_check ok) ∙ sym (ap (λ (b : Bool). pick b (by_check (check_of t)) (Err (WrongLength (bytes padded)))) (eq-eqb _ _ e)) ∙ fits l
 

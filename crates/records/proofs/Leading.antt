@@ -7,10 +7,9 @@ use native.Mathlib.Omega.{arith}
 use lib.Dec.{eqb, ltb}
 use lib.ListN.{length-append}
 use borrow.Author.Tests.{lt-ltb, le-ltb}
-use Rattle.std.specs.Prelude.{None}
+use Rattle.std.specs.Prelude.{None, Ok}
 use Rattle.tables.specs.Table.{Table}
 use Rattle.tables.specs.Check.{check_of}
-use Rattle.tables.specs.declared.Checked.TheVariants.{Accepted}
 use Rattle.tables.specs.declared.RepeatingFieldSet.{RepeatingFieldSet}
 use Rattle.walking.specs.declared.Element.{Element}
 use Rattle.walking.specs.declared.Element.TheVariants.{Outside, At}
@@ -207,7 +206,7 @@ module _ (t : Table) (p : Payload) (room : ℕ) where
     pub hands : readings t p still.done ≡ readings t p g.done ++ rs
     pub less : heft t p room z ≤ heft t p room w
 
-  pub further : check_of t ≡ Accepted → (w : Walk) (g : Going t p room w) {rs : List Reading} {z : Walk} → Led t p room w rs z → Further w g rs z
+  pub further : check_of t ≡ Ok tt → (w : Walk) (g : Going t p room w) {rs : List Reading} {z : Walk} → Led t p room w rs z → Further w g rs z
   further ok w g here = record { still = g; hands = sym (append-nil (readings t p g.done)); less = omega arith }
   further ok w g (then rs x h o) =
       let f = further ok w g h in

@@ -5,9 +5,9 @@ use mathlib.Core.List.{List, [], ◌∷◌, ◌++◌, append-nil}
 use Prim.Native.Nat.{ℕ, ◌+◌, ◌≤◌, ◌<◌}
 use native.Mathlib.Omega.{arith}
 use lib.ListN.{length}
+use Rattle.std.specs.Prelude.{Ok}
 use Rattle.tables.specs.Table.{Table}
 use Rattle.tables.specs.Check.{check_of}
-use Rattle.tables.specs.declared.Checked.TheVariants.{Accepted}
 use Rattle.fields.specs.Payload.{Payload}
 use Rattle.reading.specs.declared.Reading.{Reading}
 use Rattle.reading.specs.declared.Walk.{Walk}
@@ -52,7 +52,7 @@ module _ (t : Table) (p : Payload) (room : ℕ) (out₀ : List ℕ) where
       let m : w.progress.made ≡ 0 + length (readings t p h.still.done) = (let l = h.still.made in omega (arith, l)) in
       e ∙ ap (λ (x : List ℕ). stored x w.progress.made rs) h.puts ∙ stored-then out₀ 0 w.progress.made (readings t p h.still.done) rs m ∙ ap (stored out₀ 0) (sym k)
 
-  module _ (ok : check_of t ≡ Accepted) where
+  module _ (ok : check_of t ≡ Ok tt) where
     pub record On (w : Walk) (z : Walk) (out : List ℕ) : Type 0 where
       pub storing : Storing z out
       pub less : heft t p room z ≤ heft t p room w

@@ -1,8 +1,7 @@
 // A payload into records, by a table.
-ghost use Rattle.std.specs.Prelude.{◌≡◌};
+ghost use Rattle.std.specs.Prelude.{◌≡◌, Ok};
 ghost use Rattle.tables.specs.Table.{table_of};
 ghost use Rattle.tables.specs.Check.{check_of};
-ghost use Rattle.tables.specs.declared.Checked.TheVariants as checked;
 ghost use Rattle.records.specs.Layout.{room_in_lem};
 ghost use Rattle.records.specs.Stretches.{count_in_lem, counted};
 ghost use Rattle.records.specs.Clauses.{Walks, DecodesInto};
@@ -42,7 +41,7 @@ fn put_count(out: &mut [u8], n: usize)
 
 // The walk through the working payload s, by an accepted table, with its count.
 pub(crate) fn walked(words: &[u64], s: &[u8], out: &mut [u8]) -> Decoded
-    requires { check_of (table_of words.now) ≡ checked.Accepted }
+    requires { check_of (table_of words.now) ≡ Ok tt }
     ensures { Walks result out.new words.now s.now out.old }
 {
     let room = room_in(out.len());

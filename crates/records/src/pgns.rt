@@ -1,9 +1,8 @@
 // A payload into records, by a table that is built in. Its check is not run: that the check accepts
 // each of them is a theorem, proofs/Accepted.antt of `messages`.
-ghost use Rattle.std.specs.Prelude.{◌≡◌, length};
+ghost use Rattle.std.specs.Prelude.{◌≡◌, length, Ok};
 ghost use Rattle.tables.specs.Table.{table_of};
 ghost use Rattle.tables.specs.Check.{check_of};
-ghost use Rattle.tables.specs.declared.Checked.TheVariants as checked;
 ghost use Rattle.messages.specs.Messages.{words_of};
 ghost use Rattle.records.specs.Clauses.{Reads, DecodesByPgn};
 
@@ -15,7 +14,7 @@ use reading::Decoded;
 
 // By an accepted table that fills nothing.
 fn known(words: &[u64], received: &[u8], padded: &[u8], out: &mut [u8]) -> Decoded
-    requires { (check_of (table_of words.now) ≡ checked.Accepted) × ((table_of words.now).minimum ≡ 0) }
+    requires { (check_of (table_of words.now) ≡ Ok tt) × ((table_of words.now).minimum ≡ 0) }
     ensures { Reads result out.new words.now received.now (length padded.now) out.old }
 {
     if tables::PAYLOAD_MAX < received.len() {

@@ -1,8 +1,7 @@
 // The walk through a payload with its readings stored: quickly as far as it goes, else turn by turn.
-ghost use Rattle.std.specs.Prelude.{◌≡◌, ◌≤◌};
+ghost use Rattle.std.specs.Prelude.{◌≡◌, ◌≤◌, Ok};
 ghost use Rattle.tables.specs.Table.{table_of};
 ghost use Rattle.tables.specs.Check.{check_of};
-ghost use Rattle.tables.specs.declared.Checked.TheVariants as checked;
 ghost use Rattle.walking.specs.declared.Spot.TheVariants as spot;
 ghost use Rattle.fields.specs.Payload.{payload_of};
 ghost use Rattle.reading.specs.Decode.{progress_at};
@@ -210,7 +209,7 @@ fn turn(words: &[u64], s: &[u8], room: usize, walk: Walk, out: &mut [u8]) -> Nex
 
 // The walk through the working payload s, by an accepted table.
 pub(crate) fn store(words: &[u64], s: &[u8], room: usize, out: &mut [u8]) -> Decoded
-    requires { (check_of (table_of words.now) ≡ checked.Accepted) × Roomy room out.old }
+    requires { (check_of (table_of words.now) ≡ Ok tt) × Roomy room out.old }
     ensures { Stores result out.new words.now s.now room out.old }
 {
     let mut walk = reading::start();

@@ -4,7 +4,7 @@ ghost use Rattle.tables.specs.Table.{table_of};
 ghost use Rattle.tables.specs.Check.{check_of};
 ghost use Rattle.samopute_c.specs.Checks.{check_status, check_cells};
 
-use tables::Checked;
+use tables::BrokenRule;
 
 // Checks a table in words: the answer is 0, or 8 with the place of the rule's letter in the alphabet
 // and the index of the field or the set.
@@ -12,11 +12,11 @@ pub fn samopute_check(words: &[u64], answer: &mut [u64; 3]) -> u32
     ensures { (result ≡ check_status (check_of (table_of words.now))) × (answer.new ≡ check_cells (check_of (table_of words.now))) }
 {
     match tables::check(words) {
-        Checked::Accepted => {
+        Ok(()) => {
             *answer = [0, 0, 0];
             0
         }
-        Checked::Refused { rule, index } => {
+        Err(BrokenRule { rule, index }) => {
             let letter = rule.letter();
             *answer = [letter as u64, index as u64, 0];
             8

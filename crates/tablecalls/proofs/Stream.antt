@@ -5,6 +5,7 @@ use mathlib.Core.List.{List, [], ◌∷◌}
 use Prim.Native.Nat.{ℕ, ◌≤◌}
 use native.Mathlib.Omega.{arith}
 use lib.ListN.{length, length-append}
+use Rattle.std.specs.Prelude.{Ok, Err}
 use Rattle.bits.specs.Bits.{pick}
 use Rattle.text.specs.Digits.{spaced}
 use Rattle.text.specs.Refusals.{table_refused, carried_texts, malformed_text}
@@ -18,9 +19,7 @@ use Rattle.lines.specs.Program.{Program}
 use Rattle.lines.proofs.Alike.{same_text}
 use Rattle.lines.proofs.Programs.{program}
 use Rattle.tables.specs.Table.{table_of}
-use Rattle.tables.specs.Check.{check_of, letter_of}
-use Rattle.tables.specs.declared.Checked.{Checked}
-use Rattle.tables.specs.declared.Checked.TheVariants.{Accepted, Refused}
+use Rattle.tables.specs.Check.{Checked, check_of, letter_of}
 use Rattle.tablecalls.specs.Answers.{checked_text, is_table, answered, printed, line_max}
 use Rattle.tablecalls.specs.Clauses.{tablecalls}
 use Rattle.tablecalls.proofs.Short.{uncapped}
@@ -35,11 +34,11 @@ answer_max = 64
 
 checked-size : (x : Checked) → length (checked_text x) ≤ 48
 unfolding carried_texts
-checked-size Accepted = omega arith
-checked-size (Refused rule index) =
-    let number = length-append (spaced table_refused) (carried_texts true (letter_of rule ∷ index ∷ [])) in
-    let last = length-append (spaced index) [] in
-    omega (arith, spaced-size table_refused, spaced-size index)
+checked-size (Ok tt) = omega arith
+checked-size (Err b) =
+    let number = length-append (spaced table_refused) (carried_texts true (letter_of b.rule ∷ b.index ∷ [])) in
+    let last = length-append (spaced b.index) [] in
+    omega (arith, spaced-size table_refused, spaced-size b.index)
 
 text-size : (t : Bool) (x : Checked) → length (pick t (checked_text x) malformed_text) ≤ 48
 text-size true x = checked-size x

@@ -4,6 +4,7 @@ use mathlib.Core.Bool.{true, false}
 use mathlib.Core.List.{List, [], ◌∷◌, ◌++◌}
 use Prim.Native.Nat.{ℕ, ◌-◌, ◌≤◌}
 use lib.ListN.{length, take}
+use Rattle.std.specs.Prelude.{Err}
 use Rattle.text.specs.Refusals.{table_refused, refused_text, malformed_text}
 use Rattle.columns.specs.Parts.{space, parts_of}
 use Rattle.columns.specs.Runs.{filled, values_of, words_in}
@@ -11,14 +12,12 @@ use Rattle.columns.specs.declared.Run.{Run}
 use Rattle.columns.proofs.Stored.{Stored, stored-words}
 use Rattle.lines.specs.Machine.{newline}
 use Rattle.tables.specs.Table.{table_of}
-use Rattle.tables.specs.Check.{check_of, letter_of}
-use Rattle.tables.specs.declared.TableRule.{TableRule}
-use Rattle.tables.specs.declared.Checked.{Checked}
-use Rattle.tables.specs.declared.Checked.TheVariants.{Refused}
+use Rattle.tables.specs.Check.{Checked, check_of, letter_of}
+use Rattle.tables.specs.declared.BrokenRule.{BrokenRule}
 use Rattle.tablecalls.specs.Answers.{words_max, checked_text, is_table, answered}
 
 -- a refusal by its number, the place of the rule's letter and the index
-pub refused : {x : Checked} {rule : TableRule} {index n : ℕ} → x ≡ Refused rule index → n ≡ letter_of rule → refused_text table_refused (n ∷ index ∷ []) ≡ checked_text x
+pub refused : {x : Checked} {b : BrokenRule} {n : ℕ} → x ≡ Err b → n ≡ letter_of b.rule → refused_text table_refused (n ∷ b.index ∷ []) ≡ checked_text x
 refused e f = rw (e, f)
 
 module _ (line old : List ℕ) {new : List ℕ} {r : Run} (e : filled r new ≡ words_in space line old) (size : length old ≡ words_max) where

@@ -1,14 +1,12 @@
 -- What a line is answered: src/main.rt, "each line [..] is one table in words", with document 01's text of a refusal.
-use Rattle.std.specs.Prelude.{ℕ, List, [], ◌∷◌, ◌++◌, Bool}
+use Rattle.std.specs.Prelude.{ℕ, List, [], ◌∷◌, ◌++◌, Bool, Ok, Err}
 use Rattle.bits.specs.Bits.{pick}
 use Rattle.text.specs.Refusals.{table_refused, refused_text, malformed_text}
 use Rattle.columns.specs.Parts.{space, parts_of}
 use Rattle.columns.specs.Runs.{values_of, is_words}
 use Rattle.lines.specs.Machine.{newline, text_of}
 use Rattle.tables.specs.Table.{table_of}
-use Rattle.tables.specs.Check.{check_of, letter_of}
-use Rattle.tables.specs.declared.Checked.{Checked}
-use Rattle.tables.specs.declared.Checked.TheVariants.{Accepted, Refused}
+use Rattle.tables.specs.Check.{Checked, check_of, letter_of}
 
 -- no line has more words
 abbrev pub words_max : ℕ
@@ -16,8 +14,8 @@ words_max = 200
 
 -- 'ok', or 8 with "the rule that is broken, a to h, and the field or the set that breaks it"
 abbrev pub checked_text : Checked → List ℕ
-checked_text Accepted = 111 ∷ 107 ∷ []
-checked_text (Refused rule index) = refused_text table_refused (letter_of rule ∷ index ∷ [])
+checked_text (Ok tt) = 111 ∷ 107 ∷ []
+checked_text (Err b) = refused_text table_refused (letter_of b.rule ∷ b.index ∷ [])
 
 -- "1 to 200 words of 1 to 16 capital hexadecimal digits, set apart by one space"
 abbrev pub is_table : List ℕ → Bool

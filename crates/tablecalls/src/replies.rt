@@ -5,7 +5,7 @@ ghost use Rattle.tables.specs.Check.{letter_of};
 ghost use Rattle.tablecalls.specs.Answers.{checked_text, answered};
 ghost use Rattle.tablecalls.specs.Clauses.{Passes};
 
-use tables::{Checked, TableRule};
+use tables::{BrokenRule, TableRule};
 
 // The number of the refusal of a table, which carries the rule and the index.
 const TABLE_REFUSED: usize = 8;
@@ -17,12 +17,12 @@ fn letter(rule: TableRule) -> usize
     place as usize
 }
 
-fn put_checked(out: &mut [u8], at: usize, checked: Checked) -> usize
+fn put_checked(out: &mut [u8], at: usize, checked: Result<(), BrokenRule>) -> usize
     ensures { Puts out.old at (checked_text checked) out.new result }
 {
     match checked {
-        Checked::Accepted => text::put_text(out, at, b"ok"),
-        Checked::Refused { rule, index } => {
+        Ok(()) => text::put_text(out, at, b"ok"),
+        Err(BrokenRule { rule, index }) => {
             text::put_refused(out, at, TABLE_REFUSED, 2, letter(rule), index, 0)
         }
     }

@@ -7,32 +7,29 @@ use Prim.Native.Nat.{ℕ, zero, suc, ◌+◌, ◌%◌, ◌≤◌, ◌<◌}
 use native.Mathlib.Omega.{arith}
 use lib.Dec.{leb, ltb, eqb}
 use borrow.Author.Tests.{leb-true, ltb-true, eqb-true, not-true}
+use Rattle.std.specs.Prelude.{Option, Some, None, Ok}
 use Rattle.bits.specs.Bits.{pick}
 use Rattle.bits.proofs.Written.{below}
 use Rattle.tables.specs.declared.KindClass.{KindClass}
 use Rattle.tables.specs.declared.KindClass.TheVariants.{Numeric, Counted, Lasting, Clock, Bits, Real, Gap, Fixed, Lz, Lau, Raw, Unknown}
 use Rattle.tables.specs.declared.TableRule.{TableRule}
 use Rattle.tables.specs.declared.TableRule.TheVariants.{A, B, C, D, E, F, G, H}
-use Rattle.tables.specs.declared.Found.{Found}
-use Rattle.tables.specs.declared.Found.TheVariants.{At, Nothing}
-use Rattle.tables.specs.declared.Checked.{Checked}
-use Rattle.tables.specs.declared.Checked.TheVariants.{Accepted}
 use Rattle.tables.specs.Table.{Table}
 use Rattle.tables.specs.Rules.{class_of_lem, known, last_only, width_fits_lem, whole_bytes_lem, within, in_sets_lem, declared_bits_lem, end_before_lem, counts, scaled}
-use Rattle.tables.specs.Check.{keeps, reach, found_from, settle, check_of, payload_max, field_max, set_max}
+use Rattle.tables.specs.Check.{Checked, keeps, reach, found_from, settle, check_of, payload_max, field_max, set_max}
 
 -- ---- every rule, at every index
 
-unsettled : (rule : TableRule) (x : Found) (later : Checked) → settle rule x later ≡ Accepted → (x ≡ Nothing) × (later ≡ Accepted)
-unsettled rule (At i) later h = let z : ◌≡◌ {A = ℕ} 0 1 = cc in absurd (omega arith)
-unsettled rule Nothing later h = (refl, h)
+unsettled : (rule : TableRule) (x : Option ℕ) (later : Checked) → settle rule x later ≡ Ok tt → (x ≡ None) × (later ≡ Ok tt)
+unsettled rule (Some i) later h = let z : ◌≡◌ {A = ℕ} 0 1 = cc in absurd (omega arith)
+unsettled rule None later h = (refl, h)
 
-picked : (b : Bool) (x : Found) (i : ℕ) → pick b x (At i) ≡ Nothing → (b ≡ true) × (x ≡ Nothing)
+picked : (b : Bool) (x : Option ℕ) (i : ℕ) → pick b x (Some i) ≡ None → (b ≡ true) × (x ≡ None)
 picked true x i h = (refl, h)
 picked false x i h = let z : ◌≡◌ {A = ℕ} 0 1 = cc in absurd (omega arith)
 
 -- a search that finds nothing
-kept_from : (rule : TableRule) (t : Table) (i n : ℕ) → found_from rule t i n ≡ Nothing → (j : ℕ) → i ≤ j → j < i + n → keeps rule t j ≡ true
+kept_from : (rule : TableRule) (t : Table) (i n : ℕ) → found_from rule t i n ≡ None → (j : ℕ) → i ≤ j → j < i + n → keeps rule t j ≡ true
 unfolding found_from
 kept_from rule t i zero h j l u = absurd (omega arith)
 kept_from rule t i (suc n) h j l u =
@@ -42,8 +39,8 @@ kept_from rule t i (suc n) h j l u =
     (λ (k : j ≤ i). let e : i ≡ j = omega arith in sym (ap (keeps rule t) e) ∙ p.0)
     (below i j)
 
-module _ (t : Table) (ok : check_of t ≡ Accepted) where
-  none : (rule : TableRule) → found_from rule t 0 (reach rule t) ≡ Nothing
+module _ (t : Table) (ok : check_of t ≡ Ok tt) where
+  none : (rule : TableRule) → found_from rule t 0 (reach rule t) ≡ None
   none rule =
       let a = unsettled A _ _ ok in
       let b = unsettled B _ _ a.1 in
@@ -55,9 +52,9 @@ module _ (t : Table) (ok : check_of t ≡ Accepted) where
       let h = unsettled H _ _ g.1 in
       each a.0 b.0 c.0 d.0 e.0 f.0 g.0 h.0 rule
     where
-      each : found_from A t 0 (reach A t) ≡ Nothing → found_from B t 0 (reach B t) ≡ Nothing → found_from C t 0 (reach C t) ≡ Nothing → found_from D t 0 (reach D t) ≡ Nothing
-          → found_from E t 0 (reach E t) ≡ Nothing → found_from F t 0 (reach F t) ≡ Nothing → found_from G t 0 (reach G t) ≡ Nothing → found_from H t 0 (reach H t) ≡ Nothing
-          → (rule : TableRule) → found_from rule t 0 (reach rule t) ≡ Nothing
+      each : found_from A t 0 (reach A t) ≡ None → found_from B t 0 (reach B t) ≡ None → found_from C t 0 (reach C t) ≡ None → found_from D t 0 (reach D t) ≡ None
+          → found_from E t 0 (reach E t) ≡ None → found_from F t 0 (reach F t) ≡ None → found_from G t 0 (reach G t) ≡ None → found_from H t 0 (reach H t) ≡ None
+          → (rule : TableRule) → found_from rule t 0 (reach rule t) ≡ None
       each a b c d e f g h A = a
       each a b c d e f g h B = b
       each a b c d e f g h C = c
@@ -94,7 +91,7 @@ pub record Sizes (t : Table) : Type 0 where
   -- "minimum not above length", where a length is given: 0 is none
   pub ordered : 1 ≤ t.length → t.minimum ≤ t.length
 
-pub sizes : (t : Table) → check_of t ≡ Accepted → Sizes t
+pub sizes : (t : Table) → check_of t ≡ Ok tt → Sizes t
 sizes t ok =
     let a = both (within 1 field_max t.count) _ (kept t ok A 0 (omega arith)) in
     let n = between 1 field_max t.count a.0 in
@@ -114,11 +111,11 @@ sizes t ok =
     }
 
 -- rule b
-pub kinds : (t : Table) → check_of t ≡ Accepted → (i : ℕ) → i < t.count → known (class_of_lem (t.field i).kind) ≡ true
+pub kinds : (t : Table) → check_of t ≡ Ok tt → (i : ℕ) → i < t.count → known (class_of_lem (t.field i).kind) ≡ true
 kinds t ok i l = kept t ok B i l
 
 -- rule c: a width is what its kind allows, and at most 1,784
-pub widths : (t : Table) → check_of t ≡ Accepted → (i : ℕ) → i < t.count → width_fits_lem (class_of_lem (t.field i).kind) (t.field i).width ≡ true
+pub widths : (t : Table) → check_of t ≡ Ok tt → (i : ℕ) → i < t.count → width_fits_lem (class_of_lem (t.field i).kind) (t.field i).width ≡ true
 widths t ok i l = kept t ok C i l
 
 bytes_le : (w : ℕ) → whole_bytes_lem w ≡ true → w ≤ 1784
@@ -141,11 +138,11 @@ most Raw w h = ⊎_elim
     (λ (b : (not (eqb (w % 8) 0) && leb w 63) ≡ true). let l : w ≤ 63 = leb-true w 63 (both (not (eqb (w % 8) 0)) (leb w 63) b).1 in omega arith)
     (either (whole_bytes_lem w) (not (eqb (w % 8) 0) && leb w 63) h)
 
-pub width-le : (t : Table) → check_of t ≡ Accepted → (i : ℕ) → i < t.count → (t.field i).width ≤ 1784
+pub width-le : (t : Table) → check_of t ≡ Ok tt → (i : ℕ) → i < t.count → (t.field i).width ≤ 1784
 width-le t ok i l = most (class_of_lem (t.field i).kind) (t.field i).width (widths t ok i l)
 
 -- rule f: a StringLz is the last field, and in no set
-pub last : (t : Table) → check_of t ≡ Accepted → (i : ℕ) → i < t.count → class_of_lem (t.field i).kind ≡ Lz → (i + 1 ≡ t.count) × (in_sets_lem t i t.sets ≡ false)
+pub last : (t : Table) → check_of t ≡ Ok tt → (i : ℕ) → i < t.count → class_of_lem (t.field i).kind ≡ Lz → (i + 1 ≡ t.count) × (in_sets_lem t i t.sets ≡ false)
 last t ok i l e =
     let h : (eqb (i + 1) t.count && not (in_sets_lem t i t.sets)) ≡ true = sym (ap (λ (c : KindClass). not (last_only c) || (eqb (i + 1) t.count && not (in_sets_lem t i t.sets))) e) ∙ kept t ok F i l in
     let b = both (eqb (i + 1) t.count) (not (in_sets_lem t i t.sets)) h in
@@ -160,7 +157,7 @@ pub record Placed (t : Table) (k : ℕ) : Type 0 where
   pub least : 1 ≤ (t.set k).maximum
   pub most : (t.set k).maximum ≤ 255
 
-pub placed : (t : Table) → check_of t ≡ Accepted → (k : ℕ) → k < t.sets → Placed t k
+pub placed : (t : Table) → check_of t ≡ Ok tt → (k : ℕ) → k < t.sets → Placed t k
 placed t ok k l =
     let a = both (leb (end_before_lem t k) (t.set k).start) _ (kept t ok G k l) in
     let b = both (leb ((t.set k).start + (t.set k).size) t.count) _ a.1 in
@@ -177,7 +174,7 @@ placed t ok k l =
     }
 
 -- of two sets the later starts at or after the earlier one's end
-pub apart : (t : Table) → check_of t ≡ Accepted → (j k : ℕ) → j < k → k < t.sets → (t.set j).start + (t.set j).size ≤ (t.set k).start
+pub apart : (t : Table) → check_of t ≡ Ok tt → (j k : ℕ) → j < k → k < t.sets → (t.set j).start + (t.set j).size ≤ (t.set k).start
 apart t ok j zero l u = absurd (omega arith)
 apart t ok j (suc k) l u =
     let p = placed t ok (suc k) u in
@@ -196,7 +193,7 @@ pub record Counts (t : Table) (k : ℕ) : Type 0 where
   pub least : 1 ≤ (t.field (t.set k).counter).width
   pub most : (t.field (t.set k).counter).width ≤ 32
 
-pub counter : (t : Table) → check_of t ≡ Accepted → (k : ℕ) → k < t.sets → Counts t k
+pub counter : (t : Table) → check_of t ≡ Ok tt → (k : ℕ) → k < t.sets → Counts t k
 counter t ok k l =
     let f = t.field (t.set k).counter in
     let a = both (ltb (t.set k).counter (t.set k).start) _ (kept t ok H k l) in

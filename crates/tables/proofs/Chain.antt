@@ -6,11 +6,9 @@ use Prim.Native.Nat.{ℕ, ◌≤◌, ◌<◌}
 use native.Mathlib.Nat.{le_of_lt}
 use native.Mathlib.Omega.{arith}
 use lib.Dec.{lit≤}
+use Rattle.std.specs.Prelude.{Option, None, Ok, Err}
 use Rattle.tables.specs.declared.TableRule.{TableRule}
 use Rattle.tables.specs.declared.TableRule.TheVariants.{A, B, C, D, E, F, G, H}
-use Rattle.tables.specs.declared.Found.{Found}
-use Rattle.tables.specs.declared.Found.TheVariants.{Nothing}
-use Rattle.tables.specs.declared.Checked.TheVariants.{Accepted, Refused}
 use Rattle.tables.specs.Table.{Table, table_of}
 use Rattle.tables.specs.Check.{keeps, reach, found_from, settle, from_b, check_of, sizes_fit_lem, KeptField, KeptSet}
 use Rattle.tables.proofs.Missing.{count-lt, sets-lt}
@@ -28,11 +26,11 @@ reach-le G l = le_of_lt (sets-lt l)
 reach-le H l = le_of_lt (sets-lt l)
 
 module _ (t : Table) where
-  all-kept : (rule : TableRule) (n : ℕ) → ((j : ℕ) → j < n → keeps rule t j ≡ true) → found_from rule t 0 n ≡ Nothing
+  all-kept : (rule : TableRule) (n : ℕ) → ((j : ℕ) → j < n → keeps rule t j ≡ true) → found_from rule t 0 n ≡ None
   all-kept rule n h = none_found rule t 0 n (λ j l. h j (omega arith))
 
   -- where each field and each set keeps its rules, none of b to h is broken
-  pub clean : ((i : ℕ) → i < t.count → KeptField t i) → ((k : ℕ) → k < t.sets → KeptSet t k) → from_b t ≡ Accepted
+  pub clean : ((i : ℕ) → i < t.count → KeptField t i) → ((k : ℕ) → k < t.sets → KeptSet t k) → from_b t ≡ Ok tt
   clean f s =
       let b = all-kept B t.count (λ j l. (f j l).b) in
       let c = all-kept C t.count (λ j l. (f j l).c) in
@@ -41,10 +39,10 @@ module _ (t : Table) where
       let p = all-kept F t.count (λ j l. (f j l).f) in
       let g = all-kept G t.sets (λ j l. (s j l).g) in
       let h = all-kept H t.sets (λ j l. (s j l).h) in
-      λ i. settle B (b i) (settle C (c i) (settle D (d i) (settle E (e i) (settle F (p i) (settle G (g i) (settle H (h i) Accepted))))))
+      λ i. settle B (b i) (settle C (c i) (settle D (d i) (settle E (e i) (settle F (p i) (settle G (g i) (settle H (h i) (Ok tt)))))))
 
   pub sizes-kept : sizes_fit_lem t ≡ true → check_of t ≡ from_b t
-  sizes-kept h = ap (λ (x : Found). settle A x (from_b t)) (all-kept A 1 (λ j l. h))
+  sizes-kept h = ap (λ (x : Option ℕ). settle A x (from_b t)) (all-kept A 1 (λ j l. h))
 
-  pub sizes-broken : sizes_fit_lem t ≡ false → check_of t ≡ Refused A 0
-  sizes-broken h = ap (λ (x : Found). settle A x (from_b t)) (found_here A t 0 1 (omega arith) h)
+  pub sizes-broken : sizes_fit_lem t ≡ false → check_of t ≡ Err (record { rule = A; index = 0 })
+  sizes-broken h = ap (λ (x : Option ℕ). settle A x (from_b t)) (found_here A t 0 1 (omega arith) h)

@@ -9,12 +9,12 @@ use lib.Dec.{eqb, lit<}
 use lib.Ieee.{le}
 use lib.ListN.{get_or}
 use borrow.Author.Tests.{eqb-true}
+use Rattle.std.specs.Prelude.{Ok}
 use Rattle.bits.specs.Bits.{pick}
 use Rattle.descriptor.specs.Kinds.{broken, resolution_of_lem}
 use Rattle.descriptor.specs.declared.Resolution.TheVariants.{Unscaled}
 use Rattle.tables.specs.declared.KindClass.{KindClass}
 use Rattle.tables.specs.declared.TableRule.TheVariants.{D}
-use Rattle.tables.specs.declared.Checked.TheVariants.{Accepted}
 use Rattle.tables.specs.Table.{part, count_of, table_of}
 use Rattle.tables.specs.Rules.{class_of_lem, scales, resolution_fits_lem}
 use Rattle.tables.specs.Check.{check_of}
@@ -46,7 +46,7 @@ by-mark w c (suc (suc zero)) l e h = double e
 by-mark w c (suc (suc (suc zero))) l e h = absurd (unfit c h)
 by-mark w c (suc (suc (suc (suc m)))) l e h = absurd (omega (arith, l))
 
-pub marked : (words : List ℕ) → check_of (table_of words) ≡ Accepted → (i : ℕ) → i < count_of words → Marked (get_or words (1 + i) 0)
+pub marked : (words : List ℕ) → check_of (table_of words) ≡ Ok tt → (i : ℕ) → i < count_of words → Marked (get_or words (1 + i) 0)
 marked words ok i l =
     let w = get_or words (1 + i) 0 in
     by-mark w (class_of_lem ((table_of words).field i).kind) (part w 25 2) (mod-lt _ (lit< {m = 0} {n = 4} tt)) refl (kept (table_of words) ok D i l)

@@ -5,10 +5,10 @@ use Prim.Native.Nat.{ℕ, zero, suc, ◌+◌, ◌-◌, ◌≤◌, ◌<◌}
 use native.Mathlib.Omega.{arith}
 use native.Mathlib.Numerals.{add-one}
 use mathlib.Core.Logic.{⊎_elim}
+use Rattle.std.specs.Prelude.{Some, None}
 use Rattle.bits.specs.Bits.{pick}
 use Rattle.bits.proofs.Written.{below}
 use Rattle.tables.specs.declared.TableRule.{TableRule}
-use Rattle.tables.specs.declared.Found.TheVariants.{At, Nothing}
 use Rattle.tables.specs.Table.{Table}
 use Rattle.tables.specs.Rules.{in_set, in_sets_lem, declared_bits_lem}
 use Rattle.tables.specs.Check.{keeps, found_from}
@@ -37,7 +37,7 @@ unfolding declared_bits_lem
 bits-more t i n = ap (declared_bits_lem t i) (add-one n)
 
 module _ (rule : TableRule) (t : Table) where
-  step : (i n : ℕ) → found_from rule t i (suc n) ≡ pick (keeps rule t i) (found_from rule t (suc i) n) (At i)
+  step : (i n : ℕ) → found_from rule t i (suc n) ≡ pick (keeps rule t i) (found_from rule t (suc i) n) (Some i)
   unfolding found_from
   step i n = refl
 
@@ -45,23 +45,23 @@ module _ (rule : TableRule) (t : Table) where
   pub found-later : (i n : ℕ) → i < n → keeps rule t i ≡ true → found_from rule t i (n - i) ≡ found_from rule t (i + 1) (n - (i + 1))
   found-later i n l k =
       let e : n - i ≡ suc (n - (i + 1)) = omega arith in
-      ap (found_from rule t i) e ∙ step i (n - (i + 1)) ∙ ap (λ (b : Bool). pick b (found_from rule t (suc i) (n - (i + 1))) (At i)) k
+      ap (found_from rule t i) e ∙ step i (n - (i + 1)) ∙ ap (λ (b : Bool). pick b (found_from rule t (suc i) (n - (i + 1))) (Some i)) k
       ∙ ap (λ (j : ℕ). found_from rule t j (n - (i + 1))) (sym (add-one i))
 
   -- i breaks it: it is found
-  pub found_here : (i n : ℕ) → i < n → keeps rule t i ≡ false → found_from rule t i (n - i) ≡ At i
+  pub found_here : (i n : ℕ) → i < n → keeps rule t i ≡ false → found_from rule t i (n - i) ≡ Some i
   found_here i n l k =
       let e : n - i ≡ suc (n - (i + 1)) = omega arith in
-      ap (found_from rule t i) e ∙ step i (n - (i + 1)) ∙ ap (λ (b : Bool). pick b (found_from rule t (suc i) (n - (i + 1))) (At i)) k
+      ap (found_from rule t i) e ∙ step i (n - (i + 1)) ∙ ap (λ (b : Bool). pick b (found_from rule t (suc i) (n - (i + 1))) (Some i)) k
 
   -- nothing is left to search
-  pub found_none : (i n : ℕ) → n ≤ i → found_from rule t i (n - i) ≡ Nothing
+  pub found_none : (i n : ℕ) → n ≤ i → found_from rule t i (n - i) ≡ None
   unfolding found_from
   found_none i n l = let e : n - i ≡ 0 = omega arith in ap (found_from rule t i) e
 
   -- where each keeps the rule, nothing is found
-  pub none_found : (i n : ℕ) → ((j : ℕ) → j < i + n → keeps rule t j ≡ true) → found_from rule t i n ≡ Nothing
+  pub none_found : (i n : ℕ) → ((j : ℕ) → j < i + n → keeps rule t j ≡ true) → found_from rule t i n ≡ None
   unfolding found_from
   none_found i zero h = refl
   none_found i (suc n) h =
-      ap (λ (b : Bool). pick b (found_from rule t (suc i) n) (At i)) (h i (omega arith)) ∙ none_found (suc i) n (λ j l. h j (omega arith))
+      ap (λ (b : Bool). pick b (found_from rule t (suc i) n) (Some i)) (h i (omega arith)) ∙ none_found (suc i) n (λ j l. h j (omega arith))

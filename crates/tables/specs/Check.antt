@@ -1,14 +1,15 @@
 -- The table check: document 01, "Table rules, checked a to h, lowest index first".
-use Rattle.std.specs.Prelude.{◌≡◌, ℕ, zero, suc, Bool, true, ◌&&◌, ◌||◌, leb, eqb}
+use Rattle.std.specs.Prelude.{◌≡◌, ℕ, zero, suc, Bool, true, ◌&&◌, ◌||◌, leb, eqb, Option, Some, None, Result, Ok, Err}
 use Rattle.bits.specs.Bits.{pick}
 use Rattle.tables.specs.declared.TableRule.{TableRule}
 use Rattle.tables.specs.declared.TableRule.TheVariants.{A, B, C, D, E, F, G, H}
-use Rattle.tables.specs.declared.Found.{Found}
-use Rattle.tables.specs.declared.Found.TheVariants.{At, Nothing}
-use Rattle.tables.specs.declared.Checked.{Checked}
-use Rattle.tables.specs.declared.Checked.TheVariants.{Accepted, Refused}
+use Rattle.tables.specs.declared.BrokenRule.{BrokenRule}
 use Rattle.tables.specs.Table.{Table}
 use Rattle.tables.specs.Rules.{class_of_lem, known, within, width_fits_lem, resolution_fits_lem, sign_fits_lem, scaled, place_fits_lem, set_fits_lem, counter_fits_lem}
+
+-- what the check answers: nothing is wrong, or the rule that is broken and where
+abbrev pub Checked : Type 0
+Checked = Result (Unit {0}) BrokenRule
 
 -- the limits of rule a
 abbrev pub field_max : ℕ
@@ -54,14 +55,14 @@ reach G t = t.sets
 reach H t = t.sets
 
 -- the lowest index that breaks the rule, of the n from i on
-unfoldable pub found_from : TableRule → Table → ℕ → ℕ → Found
-found_from rule t i zero = Nothing
-found_from rule t i (suc n) = pick (keeps rule t i) (found_from rule t (suc i) n) (At i)
+unfoldable pub found_from : TableRule → Table → ℕ → ℕ → Option ℕ
+found_from rule t i zero = None
+found_from rule t i (suc n) = pick (keeps rule t i) (found_from rule t (suc i) n) (Some i)
 
 -- a rule that is broken is the answer, else what follows
-abbrev pub settle : TableRule → Found → Checked → Checked
-settle rule (At i) later = Refused rule i
-settle rule Nothing later = later
+abbrev pub settle : TableRule → Option ℕ → Checked → Checked
+settle rule (Some i) later = Err (record { rule = rule; index = i })
+settle rule None later = later
 
 -- "lowest index first"
 abbrev pub first : TableRule → Table → Checked → Checked
@@ -69,7 +70,7 @@ first rule t later = settle rule (found_from rule t 0 (reach rule t)) later
 
 -- "checked a to h"
 abbrev pub from_b : Table → Checked
-from_b t = first B t (first C t (first D t (first E t (first F t (first G t (first H t Accepted))))))
+from_b t = first B t (first C t (first D t (first E t (first F t (first G t (first H t (Ok tt)))))))
 
 abbrev pub check_of : Table → Checked
 check_of t = first A t (from_b t)

@@ -53,18 +53,11 @@ pub enum TableRule {
     H,
 }
 
-// The answer of `check`: refusal 8 names the rule and the field or the set, 0 for a.
+// What `check` refuses: the rule that is broken, and the field or the set that breaks it, 0 for a.
 #[derive(Clone, Copy)]
-pub enum Checked {
-    Accepted,
-    Refused { rule: TableRule, index: usize },
-}
-
-// The lowest index that breaks a rule.
-#[derive(Clone, Copy)]
-pub(crate) enum Found {
-    At(usize),
-    Nothing,
+pub struct BrokenRule {
+    pub rule: TableRule,
+    pub index: usize,
 }
 
 // The kinds, grouped by what the rules say of them.

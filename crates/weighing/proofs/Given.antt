@@ -4,6 +4,7 @@ use mathlib.Core.Path.{◌≡◌, refl, sym, ap, ◌∙◌}
 use mathlib.Core.Bool.{Bool, true, false, not}
 use Prim.Native.Nat.{ℕ, ◌+◌, ◌*◌, ◌/◌, ◌%◌, ◌≤◌, ◌<◌}
 use lib.Dec.{eqb, ltb}
+use Rattle.std.specs.Prelude.{Ok}
 use Rattle.bits.specs.Bits.{pick}
 use Rattle.bits.specs.Calls.{bits, room_of, width_max}
 use Rattle.bits.specs.declared.Room.{Room}
@@ -22,7 +23,6 @@ use Rattle.numbers.specs.declared.RawOf.{RawOf}
 use Rattle.numbers.specs.declared.RawOf.TheVariants as raw
 use Rattle.tables.specs.Table.{Table}
 use Rattle.tables.specs.Check.{check_of, payload_max}
-use Rattle.tables.specs.declared.Checked.TheVariants.{Accepted}
 use Rattle.fields.specs.declared.Shape.{Shape}
 use Rattle.fields.specs.declared.Shape.TheVariants as shape
 use Rattle.fields.specs.Shapes.{shape_of, is_number, is_gap_lem}
@@ -112,7 +112,7 @@ shape-given shape.Lz f i v lent size at k h =
     bytes-given v i _
     (λ b. bare-given b i lent size at b.encoding _ (text-given b i lent size at (ltb text_max b.len.0) (not (eqb b.len.0 0)) 8 (16 + 8 * b.len.0) Counted))
 
-module _ (t : Table) (ok : check_of t ≡ Accepted) (i : ℕ) (l : i < t.count) (size : ℕ) (small : size ≤ payload_max) (at : ℕ) where
+module _ (t : Table) (ok : check_of t ≡ Ok tt) (i : ℕ) (l : i < t.count) (size : ℕ) (small : size ≤ payload_max) (at : ℕ) where
   pub weighed-given : (v : PgnValue) (lent : ℕ) → Given (weighed_of (t.field i) i v lent size at)
   weighed-given v lent =
       either (ltb payload_max size) _ _ refl (shape-given (shape_of (t.field i)) (t.field i) i v lent size at (holds-number t ok i l) (λ s. bits-fair t ok i l s size small at))

@@ -4,6 +4,7 @@ use mathlib.Core.Bool.{true}
 use Prim.Native.Nat.{ℕ, ◌^◌, ◌≤◌, ◌<◌}
 use native.Mathlib.Omega.{arith}
 use borrow.Author.Tests.{eqb-true}
+use Rattle.std.specs.Prelude.{Ok}
 use Rattle.descriptor.specs.declared.FieldKind.{FieldKind}
 use Rattle.descriptor.specs.declared.FieldKind.TheVariants as kind
 use Rattle.descriptor.specs.declared.PgnValue.{PgnValue}
@@ -15,7 +16,6 @@ use Rattle.numbers.proofs.Fitting.{Wide, raw-below}
 use Rattle.tables.specs.Table.{Table}
 use Rattle.tables.specs.Check.{check_of}
 use Rattle.tables.specs.Rules.{class_of_lem, width_fits_lem}
-use Rattle.tables.specs.declared.Checked.TheVariants.{Accepted}
 use Rattle.tables.proofs.Accepted.{widths}
 
 -- rule c: a Float has 32 bits
@@ -40,6 +40,6 @@ wide kind.Reserved w h = tt
 wide kind.Spare w h = tt
 wide kind.Unimplemented w h = tt
 
-pub raw-fits : (t : Table) → check_of t ≡ Accepted → (i : ℕ) → i < t.count → (v : PgnValue) (r : ℕ) → Held v → raw_of_lem (t.field i) v ≡ Raw r
+pub raw-fits : (t : Table) → check_of t ≡ Ok tt → (i : ℕ) → i < t.count → (v : PgnValue) (r : ℕ) → Held v → raw_of_lem (t.field i) v ≡ Raw r
     → (t.field i).width ≤ 64 → r < 2 ^ (t.field i).width
 raw-fits t ok i l v r h e w = raw-below (t.field i) v r h w (wide (t.field i).kind (t.field i).width (widths t ok i l)) e

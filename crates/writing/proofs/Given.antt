@@ -11,9 +11,7 @@ use borrow.Author.Tests.{ltb-false}
 use Rattle.bits.specs.Bits.{pick}
 use Rattle.bits.specs.Calls.{bytes}
 use Rattle.tables.specs.Table.{Table}
-use Rattle.tables.specs.Check.{check_of, payload_max}
-use Rattle.tables.specs.declared.Checked.{Checked}
-use Rattle.tables.specs.declared.Checked.TheVariants as checked
+use Rattle.tables.specs.Check.{Checked, check_of, payload_max}
 use Rattle.walking.specs.declared.Element.{Element}
 use Rattle.walking.specs.Runs.{Run, ran, stopped}
 use Rattle.walking.specs.Walk.{miss, walk_from}
@@ -45,7 +43,7 @@ settled-gives t i e s (weighed.Refused x) f g h = let k : x ≡ f = cc in subst 
 
 -- ## The walk
 
-module _ (t : Table) (ok : check_of t ≡ checked.Accepted) (size : ℕ) (small : size ≤ payload_max) (offered : ℕ → Offer) (lent : ℕ) where
+module _ (t : Table) (ok : check_of t ≡ Ok tt) (size : ℕ) (small : size ≤ payload_max) (offered : ℕ → Offer) (lent : ℕ) where
   offered-given : (o : Offer) (i : ℕ) → i < t.count → (at : ℕ) → Given (offered_of o (t.field i) i lent size at)
   offered-given Nothing i l at = refl
   offered-given NoKind i l at = refl
@@ -81,7 +79,7 @@ module _ (t : Table) (vs : Values) (lent size : ℕ) (f : EncodeRefusal) where
   by_count true s e = let k : ValueCount t.count ≡ f = cc in subst Gives k refl
   by_count false s e = let k : ◌≡◌ {A = ℕ} 0 1 = cc in absurd (omega arith)
 
-  by-run : check_of t ≡ checked.Accepted → size ≤ payload_max → (w : Run Mark Pen EncodeRefusal) → writes_of t vs.offered lent size ≡ w
+  by-run : check_of t ≡ Ok tt → size ≤ payload_max → (w : Run Mark Pen EncodeRefusal) → writes_of t vs.offered lent size ≡ w
       → end_of t vs.count w ≡ Err f → Gives f
   by-run ok small (ran ms s) q e = by_count (ltb s.used vs.count) s e
   by-run ok small (stopped ms x) q e = let k : x ≡ f = cc in walk-gives t ok size small vs.offered lent ms f (q ∙ ap (stopped ms) k)
@@ -89,8 +87,8 @@ module _ (t : Table) (vs : Values) (lent size : ℕ) (f : EncodeRefusal) where
   by-begun : (b : Bool) → ltb payload_max size ≡ b → (c : Checked) → check_of t ≡ c
       → encoded_in (pick b (Err (WrongLength (bytes size))) (by_check c)) t vs lent size ≡ Err f → Gives f
   by-begun true l c q e = let k : WrongLength (bytes size) ≡ f = cc in subst Gives k refl
-  by-begun false l checked.Accepted q e = by-run q (ltb-false payload_max size l) (writes_of t vs.offered lent size) refl e
-  by-begun false l (checked.Refused rule index) q e = let k : TableRefused rule index ≡ f = cc in subst Gives k refl
+  by-begun false l (Ok tt) q e = by-run q (ltb-false payload_max size l) (writes_of t vs.offered lent size) refl e
+  by-begun false l (Err b) q e = let k : TableRefused b.rule b.index ≡ f = cc in subst Gives k refl
 
   -- any table, values, lent text and buffer: the refusal of an encode has one of its numbers
   pub encode-gives : encoded_of t vs lent size ≡ Err f → given_by_encode (number_of f) ≡ true

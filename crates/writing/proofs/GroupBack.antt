@@ -8,6 +8,7 @@ use native.Mathlib.Omega.{arith}
 use lib.Dec.{eqb}
 use lib.ListN.{get_or}
 use borrow.Author.Tests.{eqb-true, ne_eqb}
+use Rattle.std.specs.Prelude.{Ok}
 use Rattle.bits.specs.Bits.{pick}
 use Rattle.descriptor.specs.declared.FieldDescriptor.{FieldDescriptor}
 use Rattle.descriptor.specs.declared.FieldKind.{FieldKind}
@@ -16,7 +17,6 @@ use Rattle.descriptor.specs.declared.PgnValue.{PgnValue}
 use Rattle.tables.specs.Table.{Table}
 use Rattle.tables.specs.Rules.{class_of_lem, within, width_fits_lem, declared_bits_lem, group_bits_lem}
 use Rattle.tables.specs.Check.{check_of, payload_max}
-use Rattle.tables.specs.declared.Checked.TheVariants.{Accepted}
 use Rattle.tables.proofs.Accepted.{placed, widths}
 use Rattle.walking.specs.declared.Element.{Element}
 use Rattle.walking.specs.declared.Element.TheVariants.{At}
@@ -130,7 +130,7 @@ module _ (t : Table) (offered : ℕ → Offer) (lent size : ℕ) where
   pub mark-ahead : {i : ℕ} {e : Element} {s : Pen} {m : Mark} {z : Pen} → Wrote t offered lent size i e s m z → z.at.0 ≡ m.start + (size_of m.content).0
   mark-ahead h = ahead h ∙ sym (ap (λ (y : Mark). y.start + (size_of y.content).0) h.mark)
 
-  module _ (ok : check_of t ≡ Accepted) where
+  module _ (ok : check_of t ≡ Ok tt) where
     -- it takes its width or more
     wide : (i : ℕ) (e : Element) (s : Pen) (m : Mark) (z : Pen) → i < t.count → Wrote t offered lent size i e s m z → s.at.0 + (t.field i).width ≤ z.at.0
     wide i e s m z l h =

@@ -6,11 +6,11 @@ use native.Mathlib.Omega.{arith}
 use lib.ListN.{length, take, replicate, length-append, length-take, length-replicate, get_or-append}
 use lib.Seq.{get_or-take}
 use borrow.Author.Tests.{le-ltb}
+use Rattle.std.specs.Prelude.{Ok}
 use Rattle.bits.specs.Bits.{bit, bit_at, bits_at}
 use Rattle.bits.proofs.Laws.{run-local}
 use Rattle.tables.specs.Table.{Table}
 use Rattle.tables.specs.Check.{check_of, payload_max}
-use Rattle.tables.specs.declared.Checked.TheVariants.{Accepted}
 use Rattle.walking.specs.declared.Element.{Element}
 use Rattle.walking.specs.Runs.{Run, ran, stopped}
 use Rattle.walking.specs.Walk.{hit, walk_from}
@@ -103,10 +103,10 @@ pub record Imaged (t : Table) (lent : List ℕ) (size : ℕ) (ms : List Mark) (s
   pub ends : s.at.0 ≤ (seen_of t lent size ms s).size * 8
   pub used : bytes_used_lem s ≤ size
   pub long : length (take (bytes_used_lem s) (image_of size ms lent)) ≡ bytes_used_lem s
-  pub short : check_of t ≡ Accepted → (seen_of t lent size ms s).size ≤ payload_max
+  pub short : check_of t ≡ Ok tt → (seen_of t lent size ms s).size ≤ payload_max
 
 -- a payload of 223 bytes at most is so once it is filled
-pub working-short : (t : Table) → check_of t ≡ Accepted → (received : List ℕ) → length received ≤ payload_max → length (working_of t received) ≤ payload_max
+pub working-short : (t : Table) → check_of t ≡ Ok tt → (received : List ℕ) → length received ≤ payload_max → length (working_of t received) ≤ payload_max
 working-short t ok received l = working-le t received run (rw (le-ltb payload_max (length received) l, ok))
   where
     run : List ℕ

@@ -12,7 +12,6 @@ use Rattle.bits.specs.declared.ByteCount.{ByteCount}
 use Rattle.bits.specs.Calls.{bytes}
 use Rattle.tables.specs.Table.{Table}
 use Rattle.tables.specs.Check.{check_of}
-use Rattle.tables.specs.declared.Checked.TheVariants.{Accepted}
 use Rattle.walking.specs.declared.Element.{Element}
 use Rattle.walking.specs.Runs.{Run, ran}
 use Rattle.walking.specs.Walk.{One, hit}
@@ -218,7 +217,7 @@ module _ (t : Table) (vs : Values) (lent : List ℕ) (size : ℕ) where
       }
 
   -- one turn with the next value
-  pub turned : check_of t ≡ Accepted → Listed vs → (d : Draft) (buffer : List ℕ) (g : Going d buffer)
+  pub turned : check_of t ≡ Ok tt → Listed vs → (d : Draft) (buffer : List ℕ) (g : Going d buffer)
       → Turned d (stroked_of t (vs.offered d.pen.used) (length lent) (length buffer) d) (left_of t (vs.offered d.pen.used) lent buffer d)
   turned ok listed d buffer g =
       let o = vs.offered d.pen.used in

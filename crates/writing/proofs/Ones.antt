@@ -18,9 +18,7 @@ use Rattle.bits.specs.declared.BitPos.{BitPos}
 use Rattle.bits.proofs.Written.{bit-written, put-after}
 use Rattle.bits.proofs.Laws.{length-written}
 use Rattle.tables.specs.Table.{Table}
-use Rattle.tables.specs.Check.{check_of, payload_max}
-use Rattle.tables.specs.declared.Checked.{Checked}
-use Rattle.tables.specs.declared.Checked.TheVariants as checked
+use Rattle.tables.specs.Check.{Checked, check_of, payload_max}
 use Rattle.walking.specs.Runs.{ran}
 use Rattle.walking.proofs.Visits.{All}
 use Rattle.offers.specs.Values.{Values}
@@ -174,8 +172,8 @@ module _ (t : Table) (vs : Values) (lent buffer : List ℕ) (touched : touches (
       go : (b : Bool) (c : Checked) → touches (encoded_in (pick b (Err (WrongLength (bytes size))) (by_check c)) t vs (length lent) size) ≡ true
           → pick b (Err (WrongLength (bytes size))) (by_check c) ≡ Ok tt
       go true c h = absurd (false≢true h)
-      go false checked.Accepted h = refl
-      go false (checked.Refused rule index) h = absurd (false≢true h)
+      go false (Ok tt) h = refl
+      go false (Err b) h = absurd (false≢true h)
 
   image : image_of size wrote lent ≡ buffer_after t vs lent buffer
   image = sym (ap (λ (b : Result (Unit {0}) EncodeRefusal). buffer_in b t vs lent buffer) begins)

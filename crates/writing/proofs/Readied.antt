@@ -9,9 +9,7 @@ use borrow.Author.Tests.{lt-ltb, le-ltb}
 use Rattle.bits.specs.Bits.{pick}
 use Rattle.bits.specs.Calls.{bytes}
 use Rattle.tables.specs.Table.{Table}
-use Rattle.tables.specs.Check.{check_of, payload_max}
-use Rattle.tables.specs.declared.Checked.{Checked}
-use Rattle.tables.specs.declared.Checked.TheVariants as checked
+use Rattle.tables.specs.Check.{Checked, check_of, payload_max}
 use Rattle.weighing.specs.declared.EncodeRefusal.TheVariants.{WrongLength}
 use Rattle.writing.specs.Encode.{by_check, begun_of}
 
@@ -22,10 +20,10 @@ pub begun-checked : (t : Table) (size : ℕ) → size ≤ payload_max → by_che
 begun-checked t size l = rw (le-ltb payload_max size l)
 
 -- nothing is refused: the table was accepted
-pub begun-accepted : (t : Table) (size : ℕ) → Ok tt ≡ begun_of t size → check_of t ≡ checked.Accepted
+pub begun-accepted : (t : Table) (size : ℕ) → Ok tt ≡ begun_of t size → check_of t ≡ Ok tt
 begun-accepted t size e = go (ltb payload_max size) (check_of t) e
   where
-    go : (b : Bool) (c : Checked) → Ok tt ≡ pick b (Err (WrongLength (bytes size))) (by_check c) → c ≡ checked.Accepted
+    go : (b : Bool) (c : Checked) → Ok tt ≡ pick b (Err (WrongLength (bytes size))) (by_check c) → c ≡ Ok tt
     go true c h = let k : ◌≡◌ {A = ℕ} 0 1 = cc in absurd (omega arith)
-    go false checked.Accepted h = refl
-    go false (checked.Refused rule index) h = let k : ◌≡◌ {A = ℕ} 0 1 = cc in absurd (omega arith)
+    go false (Ok tt) h = refl
+    go false (Err b) h = let k : ◌≡◌ {A = ℕ} 0 1 = cc in absurd (omega arith)

@@ -18,9 +18,7 @@ use Rattle.bits.specs.declared.ByteCount.{ByteCount}
 use Rattle.descriptor.specs.declared.Encoding.TheVariants.{Absent, Byte}
 use Rattle.numbers.specs.Held.{HeldByte, Held}
 use Rattle.tables.specs.Table.{Table}
-use Rattle.tables.specs.Check.{check_of, payload_max}
-use Rattle.tables.specs.declared.Checked.{Checked}
-use Rattle.tables.specs.declared.Checked.TheVariants as checked
+use Rattle.tables.specs.Check.{Checked, check_of, payload_max}
 use Rattle.walking.specs.Runs.{Run, ran, stopped}
 use Rattle.walking.proofs.Visits.{All, all_right, all-zip, Ending}
 use Rattle.fields.specs.declared.DecodeRefusal.{DecodeRefusal}
@@ -64,7 +62,7 @@ one-most shape.Whole = omega arith
 one-most shape.Lau = omega arith
 one-most shape.Lz = omega arith
 
-module _ (t : Table) (ok : check_of t ≡ checked.Accepted) (p : Payload) (room : ℕ) where
+module _ (t : Table) (ok : check_of t ≡ Ok tt) (p : Payload) (room : ℕ) where
   -- each field takes a bit or more, but for the last
   few : (vs : List Span) → All (Right t p room) vs → Ending (Early t ok p room) vs → unskipped_in t vs ≤ total vs + 1
   unfolding unskipped_in total
@@ -87,10 +85,10 @@ module _ (t : Table) (ok : check_of t ≡ checked.Accepted) (p : Payload) (room 
 
 -- ## The answers
 
-ready : (t : Table) → check_of t ≡ checked.Accepted → (received : ℕ) → received ≤ payload_max → prepared_of t received payload_max ≡ Ok tt
+ready : (t : Table) → check_of t ≡ Ok tt → (received : ℕ) → received ≤ payload_max → prepared_of t received payload_max ≡ Ok tt
 ready t ok received l = rw (le-ltb payload_max received l, ok)
 
-module _ (t : Table) (ok : check_of t ≡ checked.Accepted) (received : List ℕ) (short : length received ≤ payload_max) (room : ℕ) where
+module _ (t : Table) (ok : check_of t ≡ Ok tt) (received : List ℕ) (short : length received ≤ payload_max) (room : ℕ) where
   abbrev working : Payload
   working = payload_of (working_of t received)
 
@@ -108,7 +106,7 @@ module _ (t : Table) (ok : check_of t ≡ checked.Accepted) (received : List ℕ
 
 pub record Accepts (t : Table) (vs : Values) (lent size n : ℕ) : Type 0 where
   pub short : size ≤ payload_max
-  pub table : check_of t ≡ checked.Accepted
+  pub table : check_of t ≡ Ok tt
   pub begins : begun_of t size ≡ Ok tt
   pub marks : List Mark
   pub end : Pen
@@ -129,15 +127,15 @@ module _ (t : Table) (vs : Values) (lent size n : ℕ) where
     where
       go : (b : Bool) (c : Checked) → ltb payload_max size ≡ b → check_of t ≡ c → encoded_in (pick b (Err (WrongLength (bytes size))) (by_check c)) t vs lent size ≡ Ok (bytes n) → Accepts t vs lent size n
       go true c q o e = let z : ◌≡◌ {A = ℕ} 0 1 = cc in absurd (omega arith)
-      go false (checked.Refused rule index) q o e = let z : ◌≡◌ {A = ℕ} 0 1 = cc in absurd (omega arith)
-      go false checked.Accepted q o e =
+      go false (Err b) q o e = let z : ◌≡◌ {A = ℕ} 0 1 = cc in absurd (omega arith)
+      go false (Ok tt) q o e =
           let a = end_by (writes_of t vs.offered lent size) e in
           record { short = ltb-false payload_max size q; table = o; begins = rw (q, o); marks = a.0; end = a.1; writes = a.2; used = a.3 }
 
 -- ## Read-back
 
 -- what was received holds what was written
-module _ (t : Table) (ok : check_of t ≡ checked.Accepted)
+module _ (t : Table) (ok : check_of t ≡ Ok tt)
     (offered : ℕ → Offer) (known : (j : ℕ) → Offers Held (offered j)) (lent : List ℕ) (texts : AllBytes lent) (size : ℕ)
     (ms : List Mark) (s : Pen) (writes : writes_of t offered (length lent) size ≡ ran ms s)
     (received : List ℕ) (short : length received ≤ payload_max) (holds : All (Holds (payload_of (working_of t received)) lent) ms) where

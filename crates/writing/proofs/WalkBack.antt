@@ -14,7 +14,6 @@ use Rattle.numbers.specs.declared.RawOf.TheVariants as rawed
 use Rattle.numbers.specs.Held.{Held}
 use Rattle.tables.specs.Table.{Table}
 use Rattle.tables.specs.Check.{check_of, payload_max}
-use Rattle.tables.specs.declared.Checked.TheVariants as checked
 use Rattle.tables.proofs.Accepted.{placed}
 use Rattle.walking.specs.declared.Element.{Element}
 use Rattle.walking.specs.declared.Element.TheVariants.{Outside, At}
@@ -57,7 +56,7 @@ spans-map [] = refl
 spans-map (m ∷ ms) = ap (λ (vs : List Span). span_of m ∷ vs) (spans-map ms)
 
 -- a field met is one of the table's
-looks-in : (t : Table) → check_of t ≡ checked.Accepted → (i : ℕ) (e : Element) (last : Bool) → Looks t t.count i e last → i < t.count
+looks-in : (t : Table) → check_of t ≡ Ok tt → (i : ℕ) (e : Element) (last : Bool) → Looks t t.count i e last → i < t.count
 looks-in t ok i e last (plain l) = l
 looks-in t ok i e last (member k x j l m) = let p = placed t ok k l in omega (arith, p.inside)
 
@@ -106,7 +105,7 @@ pub record Penned (t : Table) (offered : ℕ → Offer) (lent size : ℕ) (m : M
   pub turn : ℕ
   pub weighed : content_of_lem (offered turn) (t.field m.field) m.field lent size m.start ≡ m.content
 
-module _ (t : Table) (ok : check_of t ≡ checked.Accepted) (offered : ℕ → Offer) (lent size : ℕ) where
+module _ (t : Table) (ok : check_of t ≡ Ok tt) (offered : ℕ → Offer) (lent size : ℕ) where
   penned-one : (i : ℕ) (e : Element) (last : Bool) (s : Pen) (m : Mark) (z : Pen) → Looks t t.count i e last → (w : Wrote t offered lent size i e s m z)
       → Penned t offered lent size (mark_at i e s.at.0 w.content)
   penned-one i e last s m z l w = record { known = looks-in t ok i e last l; kept = w.kept; turn = s.used; weighed = w.weighed }
@@ -121,7 +120,7 @@ module _ (t : Table) (ok : check_of t ≡ checked.Accepted) (offered : ℕ → O
       (λ i f last x m y l h. let w = wrote t offered lent size i f last x m y h in (subst (Penned t offered lent size) (sym w.mark) (penned-one i f last x m y l w), tt))
       (λ i f last x g l h. tt) (λ k x. tt) beginning))
 
-module _ (t : Table) (ok : check_of t ≡ checked.Accepted) (offered : ℕ → Offer) (known : (j : ℕ) → Offers Held (offered j)) (lent : List ℕ) (texts : AllBytes lent) (size : ℕ)
+module _ (t : Table) (ok : check_of t ≡ Ok tt) (offered : ℕ → Offer) (known : (j : ℕ) → Offers Held (offered j)) (lent : List ℕ) (texts : AllBytes lent) (size : ℕ)
     (p : Payload) (small : p.size ≤ payload_max) where
   raws-fit : (i : ℕ) → i < t.count → (v : PgnValue) (r : ℕ) → Held v → raw_of_lem (t.field i) v ≡ rawed.Raw r → (t.field i).width ≤ 64 → r < 2 ^ (t.field i).width
   raws-fit i l v r g q w = raw-fits t ok i l v r g q w

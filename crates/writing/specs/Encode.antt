@@ -8,9 +8,7 @@ use Rattle.descriptor.specs.declared.FieldDescriptor.{FieldDescriptor}
 use Rattle.numbers.specs.Scaling.{bits_of}
 use Rattle.numbers.specs.Special.{elements_of}
 use Rattle.tables.specs.Table.{Table}
-use Rattle.tables.specs.Check.{check_of, payload_max, set_max}
-use Rattle.tables.specs.declared.Checked.{Checked}
-use Rattle.tables.specs.declared.Checked.TheVariants as checked
+use Rattle.tables.specs.Check.{Checked, check_of, payload_max, set_max}
 use Rattle.walking.specs.declared.Element.{Element}
 use Rattle.walking.specs.Runs.{Run, ran, stopped}
 use Rattle.walking.specs.Walk.{One, hit, miss, walk_from}
@@ -90,8 +88,8 @@ writes_of t offered lent size = walk_from t (one_of t offered lent size) (count_
 
 -- "7, 8, then the walk"
 abbrev pub by_check : Checked → Result (Unit {0}) EncodeRefusal
-by_check checked.Accepted = Ok tt
-by_check (checked.Refused rule index) = Err (TableRefused rule index)
+by_check (Ok tt) = Ok tt
+by_check (Err b) = Err (TableRefused b.rule b.index)
 
 abbrev pub begun_of : Table → ℕ → Result (Unit {0}) EncodeRefusal
 begun_of t size = pick (ltb payload_max size) (Err (WrongLength (bytes size))) (by_check (check_of t))

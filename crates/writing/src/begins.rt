@@ -5,7 +5,7 @@ ghost use Rattle.writing.specs.Encode.{begun_of};
 ghost use Rattle.writing.specs.Clauses.{Begins};
 
 use bits::ByteCount;
-use tables::Checked;
+use tables::BrokenRule;
 use weighing::EncodeRefusal;
 
 // 7, 8, or nothing.
@@ -18,8 +18,8 @@ fn begun(words: &[u64], size: usize) -> Result<(), EncodeRefusal>
         });
     }
     match tables::check(words) {
-        Checked::Accepted => Ok(()),
-        Checked::Refused { rule, index } => Err(EncodeRefusal::TableRefused { rule, index }),
+        Ok(()) => Ok(()),
+        Err(BrokenRule { rule, index }) => Err(EncodeRefusal::TableRefused { rule, index }),
     }
 }
 

@@ -1,9 +1,8 @@
 // A payload from its first field to the end, its values in records.
-ghost use Rattle.std.specs.Prelude.{◌≡◌, ◌+◌, ◌/◌, length, replicate};
+ghost use Rattle.std.specs.Prelude.{◌≡◌, ◌+◌, ◌/◌, length, replicate, Ok};
 ghost use Rattle.bits.specs.Calls.{bytes};
 ghost use Rattle.tables.specs.Table.{table_of};
 ghost use Rattle.tables.specs.Check.{check_of};
-ghost use Rattle.tables.specs.declared.Checked.TheVariants as checked;
 ghost use Rattle.writing.specs.Clauses.{Writes, Encodes};
 
 use crate::{Stroke, begins, strokes};
@@ -28,7 +27,7 @@ fn written(
     lent: &[u8],
     buffer: &mut [u8],
 ) -> Result<ByteCount, EncodeRefusal>
-    requires { (check_of (table_of words.now) ≡ checked.Accepted) × (buffer.old ≡ replicate (length buffer.old) 0xff) }
+    requires { (check_of (table_of words.now) ≡ Ok tt) × (buffer.old ≡ replicate (length buffer.old) 0xff) }
     ensures { Writes result buffer.new words.now values.now lent.now buffer.old }
 {
     let mut draft = strokes::start();

@@ -1,9 +1,9 @@
 -- Turn by turn, the lines of the readings so far stand on the page. The measure is the weight of the walk.
 use mathlib.Core.Path.{◌≡◌}
 use lib.ListN.{length}
+use Rattle.std.specs.Prelude.{Ok}
 use Rattle.tables.specs.Table.{table_of}
 use Rattle.tables.specs.Check.{check_of}
-use Rattle.tables.specs.declared.Checked.TheVariants.{Accepted}
 use Rattle.fields.specs.Payload.{payload_of}
 use Rattle.reading.proofs.Looped.{heft}
 use Rattle.frame_lines.proofs.Walked.{Printed}
@@ -11,7 +11,7 @@ use Rattle.readcalls.specs.Lines.{reading_line}
 use Rattle.readcalls.proofs.turning.put_walk.Given as goal
 
 abbrev pub invariant-loop-walk : goal.invariant-loop-walk
-invariant-loop-walk l = (check_of (table_of l.words) ≡ Accepted) × ((length l.out ≡ length l.initial.out) × Printed reading_line (table_of l.words) (payload_of l.s) l.room l.initial.out l.at l.out l.to l.walk)
+invariant-loop-walk l = (check_of (table_of l.words) ≡ Ok tt) × ((length l.out ≡ length l.initial.out) × Printed reading_line (table_of l.words) (payload_of l.s) l.room l.initial.out l.at l.out l.to l.walk)
 
 abbrev pub decreases-loop-walk : goal.decreases-loop-walk
 decreases-loop-walk l = heft (table_of l.words) (payload_of l.s) l.room l.walk

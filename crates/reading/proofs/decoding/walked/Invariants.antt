@@ -1,14 +1,14 @@
 -- Turn by turn, what is met and what is left are the walk.
 use mathlib.Core.Path.{◌≡◌}
+use Rattle.std.specs.Prelude.{Ok}
 use Rattle.tables.specs.Table.{table_of}
 use Rattle.fields.specs.Payload.{payload_of}
 use Rattle.tables.specs.Check.{check_of}
-use Rattle.tables.specs.declared.Checked.TheVariants.{Accepted}
 use Rattle.reading.proofs.Looped.{Going, heft}
 use Rattle.reading.proofs.decoding.walked.Given as goal
 
 abbrev pub invariant-loop-walk : goal.invariant-loop-walk
-invariant-loop-walk l = (check_of (table_of l.words) ≡ Accepted) × Going (table_of l.words) (payload_of l.s) l.room l.walk
+invariant-loop-walk l = (check_of (table_of l.words) ≡ Ok tt) × Going (table_of l.words) (payload_of l.s) l.room l.walk
 
 abbrev pub decreases-loop-walk : goal.decreases-loop-walk
 decreases-loop-walk l = heft (table_of l.words) (payload_of l.s) l.room l.walk

@@ -3,9 +3,9 @@ use mathlib.Core.Path.{◌≡◌, sym, ◌∙◌, subst}
 use mathlib.Core.List.{List}
 use Prim.Native.Nat.{ℕ}
 use native.Mathlib.Omega.{arith}
+use Rattle.std.specs.Prelude.{Ok}
 use Rattle.tables.specs.Table.{Table, table_of}
 use Rattle.tables.specs.Check.{check_of}
-use Rattle.tables.specs.declared.Checked.TheVariants.{Accepted}
 use Rattle.fields.specs.Payload.{Payload, payload_of}
 use Rattle.reading.specs.declared.Walk.{Walk}
 use Rattle.reading.specs.declared.Next.{Next}
@@ -18,7 +18,7 @@ use Rattle.records.proofs.Quickly.{roomy-on}
 use Rattle.records.proofs.Storing.{Storing, storing-none, On, storing-on, Next-on, next-on, Next-last, next_last}
 use Rattle.records.proofs.walks.store.Goals as goal
 
-module _ {t : Table} {p : Payload} {room : ℕ} {out₀ : List ℕ} (ok : check_of t ≡ Accepted) {w z : Walk} {out mid : List ℕ} (h : Storing t p room out₀ w out) (l : Leads t p room w out z mid) where
+module _ {t : Table} {p : Payload} {room : ℕ} {out₀ : List ℕ} (ok : check_of t ≡ Ok tt) {w z : Walk} {out mid : List ℕ} (h : Storing t p room out₀ w out) (l : Leads t p room w out z mid) where
   -- after the quick way
   on : On t p room out₀ ok w z mid
   on = storing-on t p room out₀ ok w out z mid h l

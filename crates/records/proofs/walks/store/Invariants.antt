@@ -1,8 +1,8 @@
 -- What is stored are the readings made so far.
 use mathlib.Core.Path.{◌≡◌}
+use Rattle.std.specs.Prelude.{Ok}
 use Rattle.tables.specs.Table.{table_of}
 use Rattle.tables.specs.Check.{check_of}
-use Rattle.tables.specs.declared.Checked.TheVariants.{Accepted}
 use Rattle.fields.specs.Payload.{payload_of}
 use Rattle.reading.proofs.Looped.{heft}
 use Rattle.records.specs.Stretches.{Roomy}
@@ -10,7 +10,7 @@ use Rattle.records.proofs.Storing.{Storing}
 use Rattle.records.proofs.walks.store.Given as goal
 
 abbrev pub invariant-loop-walk : goal.invariant-loop-walk
-invariant-loop-walk l = (check_of (table_of l.words) ≡ Accepted) × (Roomy l.room l.out × Storing (table_of l.words) (payload_of l.s) l.room l.initial.out l.walk l.out)
+invariant-loop-walk l = (check_of (table_of l.words) ≡ Ok tt) × (Roomy l.room l.out × Storing (table_of l.words) (payload_of l.s) l.room l.initial.out l.walk l.out)
 
 abbrev pub decreases-loop-walk : goal.decreases-loop-walk
 decreases-loop-walk l = heft (table_of l.words) (payload_of l.s) l.room l.walk

@@ -6,7 +6,6 @@ use Prim.Native.Nat.{ℕ}
 use lib.ListN.{length}
 use Rattle.tables.specs.Table.{table_of}
 use Rattle.tables.specs.Check.{check_of}
-use Rattle.tables.specs.declared.Checked.TheVariants.{Accepted}
 use Rattle.offers.specs.declared.Offer.{Offer}
 use Rattle.offers.specs.Records.{values_in}
 use Rattle.writing.specs.declared.Draft.{Draft}
@@ -18,7 +17,7 @@ use Rattle.writing.proofs.encodes.written.Goals as goal
 
 -- what a turn of the loop leaves: of the offer, the answer and the buffer that its calls are known to give
 left : (words values : List ℕ) {lent : List ℕ} {n : ℕ} {d : Draft} {b : List ℕ} {o : Offer} {x : Stroked} {after : List ℕ}
-    → check_of (table_of words) ≡ Accepted → Going (table_of words) (values_in values) lent n d b
+    → check_of (table_of words) ≡ Ok tt → Going (table_of words) (values_in values) lent n d b
     → o ≡ (values_in values).offered d.pen.used
     → x ≡ stroked_of (table_of words) o (length lent) (length b) d
     → after ≡ left_of (table_of words) o lent b d

@@ -2,15 +2,15 @@
 -- is met.
 use mathlib.Core.Path.{◌≡◌}
 use lib.ListN.{length}
+use Rattle.std.specs.Prelude.{Ok}
 use Rattle.tables.specs.Table.{table_of}
 use Rattle.tables.specs.Check.{check_of}
-use Rattle.tables.specs.declared.Checked.TheVariants.{Accepted}
 use Rattle.offers.specs.Records.{values_in}
 use Rattle.writing.proofs.Loops.{Going, heft}
 use Rattle.writing.proofs.encodes.written.Given as goal
 
 abbrev pub invariant-loop-refusal : goal.invariant-loop-refusal
-invariant-loop-refusal l = (check_of (table_of l.words) ≡ Accepted) × Going (table_of l.words) (values_in l.values) l.lent (length l.initial.buffer) l.draft l.buffer
+invariant-loop-refusal l = (check_of (table_of l.words) ≡ Ok tt) × Going (table_of l.words) (values_in l.values) l.lent (length l.initial.buffer) l.draft l.buffer
 
 abbrev pub decreases-loop-refusal : goal.decreases-loop-refusal
 decreases-loop-refusal l = heft (table_of l.words) (values_in l.values) l.lent (length l.initial.buffer) l.draft
