@@ -1,9 +1,11 @@
 // Document 01's number for a refusal, the values that it carries, in the paper's order, and what they
 // count; and which of the numbers touch no buffer.
 ghost use Rattle.std.specs.Prelude.{◌≡◌, length, get_or};
+ghost use Rattle.fields.specs.declared.DecodeRefusal.TheVariants.{TableRefused};
 ghost use Rattle.fields.specs.Refusals.{number_of, touches_nothing_lem, carried_of, unit_of};
 
 use crate::DecodeRefusal;
+use tables::BrokenRule;
 
 impl DecodeRefusal {
     pub fn number(self) -> u32
@@ -61,6 +63,18 @@ impl DecodeRefusal {
         match self {
             DecodeRefusal::BitReaderError { refusal, .. } => refusal.unit(),
             _ => 0,
+        }
+    }
+}
+
+// What the table check refuses is refusal 8.
+impl From<BrokenRule> for DecodeRefusal {
+    ghost from_gives = { λ b e. e ≡ TableRefused b.rule b.index };
+
+    fn from(broken: BrokenRule) -> DecodeRefusal {
+        DecodeRefusal::TableRefused {
+            rule: broken.rule,
+            index: broken.index,
         }
     }
 }

@@ -6,7 +6,6 @@ ghost use Rattle.reading.specs.Clauses.{Prepares};
 
 use bits::ByteCount;
 use fields::DecodeRefusal;
-use tables::BrokenRule;
 
 // Whether a payload of so many bytes is filled.
 pub fn is_filled(words: &[u64], received: usize) -> bool
@@ -39,10 +38,8 @@ fn prepared(words: &[u64], received: usize, padded: usize) -> Result<(), DecodeR
             length: ByteCount(padded),
         });
     }
-    match tables::check(words) {
-        Ok(()) => Ok(()),
-        Err(BrokenRule { rule, index }) => Err(DecodeRefusal::TableRefused { rule, index }),
-    }
+    tables::check(words)?;
+    Ok(())
 }
 
 // Refusal 7 or 8, or nothing; then the padding run is filled if the table asks for it.
