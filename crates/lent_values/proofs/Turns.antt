@@ -20,7 +20,7 @@ use Rattle.offers.specs.declared.Offer.{Offer}
 use Rattle.offers.specs.declared.Offer.TheVariants.{Nothing, Value}
 use Rattle.writing.specs.declared.Draft.{Draft}
 use Rattle.writing.specs.declared.Stroke.{Stroke}
-use Rattle.writing.specs.declared.Stroke.TheVariants.{Wrote, Skipped, Moved, Ended, Refused}
+use Rattle.writing.specs.declared.Stroke.TheVariants.{Wrote, Skipped, Moved, Ended}
 use Rattle.writing.specs.declared.Stroked.{Stroked}
 use Rattle.writing.specs.Encode.{begun_of, encoded_in, encoded_of, buffer_in, buffer_after}
 use Rattle.writing.specs.Strokes.{start_of, ones_if, stroked_of, left_of}
@@ -79,12 +79,12 @@ module _ (t : Table) (vs : List PgnValue) (lent buffer : List ℕ) where
 
   module _ (ready : begun_of t size ≡ Ok tt) (d : Draft) where
     -- a later one, by its stroke
-    stroke-after : (x : Stroked) (cur : List ℕ) → Turned t (values_of vs) lent size d x cur → (k : Stroke) → x.stroke ≡ k → After (heft t (values_of vs) lent size d) (next_by k x.draft count) cur
-    stroke-after x cur w (Wrote v) e = let h = w.on (ap goes_on_lem e) in after_on ready _ x.draft cur h.0 h.1
-    stroke-after x cur w (Skipped v) e = let h = w.on (ap goes_on_lem e) in after_on ready _ x.draft cur h.0 h.1
-    stroke-after x cur w Moved e = let h = w.on (ap goes_on_lem e) in after_on ready _ x.draft cur h.0 h.1
-    stroke-after x cur w Ended e = let h = w.ends e in after-over (Ok tt) ready _ x.draft _ cur (sym h.0) h.1
-    stroke-after x cur w (Refused f) e = let h = w.stops f e in after-over (Ok tt) ready _ x.draft _ cur (sym h.0) h.1
+    stroke-after : (x : Stroked) (cur : List ℕ) → Turned t (values_of vs) lent size d x cur → (k : Result Stroke EncodeRefusal) → x.stroke ≡ k → After (heft t (values_of vs) lent size d) (next_by k x.draft count) cur
+    stroke-after x cur w (Ok (Wrote v)) e = let h = w.on (ap goes_on_lem e) in after_on ready _ x.draft cur h.0 h.1
+    stroke-after x cur w (Ok (Skipped v)) e = let h = w.on (ap goes_on_lem e) in after_on ready _ x.draft cur h.0 h.1
+    stroke-after x cur w (Ok Moved) e = let h = w.on (ap goes_on_lem e) in after_on ready _ x.draft cur h.0 h.1
+    stroke-after x cur w (Ok Ended) e = let h = w.ends e in after-over (Ok tt) ready _ x.draft _ cur (sym h.0) h.1
+    stroke-after x cur w (Err f) e = let h = w.stops f e in after-over (Ok tt) ready _ x.draft _ cur (sym h.0) h.1
 
     -- what is offered is the next value
     is-offered : (v : PgnValue) → Stands d v → offer_by (ltb d.pen.used count) v ≡ offered_at vs d.pen.used

@@ -11,7 +11,7 @@ use Rattle.offers.specs.declared.Offer.{Offer}
 use Rattle.offers.specs.declared.Offer.TheVariants.{Nothing, Value}
 use Rattle.writing.specs.declared.Draft.{Draft}
 use Rattle.writing.specs.declared.Stroke.{Stroke}
-use Rattle.writing.specs.declared.Stroke.TheVariants.{Wrote, Skipped, Moved, Ended, Refused}
+use Rattle.writing.specs.declared.Stroke.TheVariants.{Wrote, Skipped, Moved, Ended}
 use Rattle.writing.specs.declared.Stroked.{Stroked}
 use Rattle.writing.specs.Encode.{begun_of, bytes_used_lem}
 use Rattle.writing.specs.Strokes.{start_of, ones_if, stroked_of, left_of}
@@ -37,12 +37,12 @@ abbrev pub first_by : Result (Unit {0}) EncodeRefusal → ℕ → Step
 first_by (Ok u) count = going_on_lem count start_of
 first_by (Err e) count = over_with_lem start_of (Err e)
 
-abbrev pub next_by : Stroke → Draft → ℕ → Step
-next_by (Wrote v) d count = going_on_lem count d
-next_by (Skipped v) d count = going_on_lem count d
-next_by Moved d count = going_on_lem count d
-next_by Ended d count = over_with_lem d (Ok (bytes (bytes_used_lem d.pen)))
-next_by (Refused e) d count = over_with_lem d (Err e)
+abbrev pub next_by : Result Stroke EncodeRefusal → Draft → ℕ → Step
+next_by (Ok (Wrote v)) d count = going_on_lem count d
+next_by (Ok (Skipped v)) d count = going_on_lem count d
+next_by (Ok Moved) d count = going_on_lem count d
+next_by (Ok Ended) d count = over_with_lem d (Ok (bytes (bytes_used_lem d.pen)))
+next_by (Err e) d count = over_with_lem d (Err e)
 
 abbrev pub next_of : Stroked → ℕ → Step
 next_of x count = next_by x.stroke x.draft count

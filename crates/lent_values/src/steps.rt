@@ -78,16 +78,14 @@ fn offered(v: PgnValue, used: usize, count: usize) -> Offer
 }
 
 // After a stroke.
-fn after(stroke: Stroke, draft: Draft, count: usize) -> Step
+fn after(stroke: Result<Stroke, EncodeRefusal>, draft: Draft, count: usize) -> Step
     ensures { result ≡ next_by stroke draft count }
 {
     let pen = draft.pen;
     match stroke {
-        Stroke::Wrote(_) => going_on(draft, count),
-        Stroke::Skipped(_) => going_on(draft, count),
-        Stroke::Moved => going_on(draft, count),
-        Stroke::Ended => over_with(draft, Ok(writing::bytes_used(pen.at))),
-        Stroke::Refused(refusal) => over_with(draft, Err(refusal)),
+        Ok(Stroke::Wrote(_) | Stroke::Skipped(_) | Stroke::Moved) => going_on(draft, count),
+        Ok(Stroke::Ended) => over_with(draft, Ok(writing::bytes_used(pen.at))),
+        Err(refusal) => over_with(draft, Err(refusal)),
     }
 }
 

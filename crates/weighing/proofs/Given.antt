@@ -1,10 +1,11 @@
 -- "No refusal is given otherwise", of one value in a field of an accepted table, in a buffer of 223 bytes at most: 2, 3, 10, 11 or 13, never 1 or 6.
 -- Assumes nothing.
+use Rattle.std.specs.Prelude.{Result, Ok, Err}
 use mathlib.Core.Path.{◌≡◌, refl, sym, ap, ◌∙◌}
 use mathlib.Core.Bool.{Bool, true, false, not}
 use Prim.Native.Nat.{ℕ, ◌+◌, ◌*◌, ◌/◌, ◌%◌, ◌≤◌, ◌<◌}
 use lib.Dec.{eqb, ltb}
-use Rattle.std.specs.Prelude.{Ok}
+use Rattle.weighing.specs.declared.EncodeRefusal.{EncodeRefusal}
 use Rattle.bits.specs.Bits.{pick}
 use Rattle.bits.specs.Calls.{bits, room_of, width_max}
 use Rattle.bits.specs.declared.Room.{Room}
@@ -32,29 +33,27 @@ use Rattle.fields.proofs.Given.{Fair, fits, beyond-bits, beyond-bytes, unaligned
 use Rattle.weighing.specs.declared.Lead.{Lead}
 use Rattle.weighing.specs.declared.Lead.TheVariants.{Bare, Counted, Encoded, Empty}
 use Rattle.weighing.specs.declared.Weighed.{Weighed}
-use Rattle.weighing.specs.declared.Weighed.TheVariants.{Number, Gap, Text, Refused}
+use Rattle.weighing.specs.declared.Weighed.TheVariants.{Number, Gap, Text}
 use Rattle.weighing.specs.Refusals.{number_of, given_by_encode}
 use Rattle.weighing.specs.Weigh.{text_max, at_field_lem, if_room_lem, number_by, gap_of, too_long_lem, text_by, unencoded, lau_by, by_bytes, weighed_by, weighed_of}
 
 -- what is weighed, or a refusal that an encode gives
-abbrev pub Given : Weighed → Type 0
-Given (Number n r) = Unit {0}
-Given (Gap n) = Unit {0}
-Given (Text n lead b) = Unit {0}
-Given (Refused f) = given_by_encode (number_of f) ≡ true
+abbrev pub Given : Result Weighed EncodeRefusal → Type 0
+Given (Ok w) = Unit {0}
+Given (Err f) = given_by_encode (number_of f) ≡ true
 
-at_field : {r : Room} (i : ℕ) (w : Weighed) → Fair r → Given w → Given (at_field_lem r i w)
+at_field : {r : Room} (i : ℕ) (w : Result Weighed EncodeRefusal) → Fair r → Given w → Given (at_field_lem r i w)
 at_field i w fits h = h
 at_field i w beyond-bits h = refl
 at_field i w beyond-bytes h = refl
 at_field i w unaligned h = refl
 
-either : (b : Bool) (x y : Weighed) → Given x → Given y → Given (pick b x y)
+either : (b : Bool) (x y : Result Weighed EncodeRefusal) → Given x → Given y → Given (pick b x y)
 either true x y h k = h
 either false x y h k = k
 
 number-given : (x : RawOf) (i size at w : ℕ) → ((n : ℕ) → x ≡ raw.BadWidth n → ⊥) → Fair (room_of size at w width_max) → Given (number_by x i size at w)
-number-given (raw.Raw r) i size at w h f = at_field i (Number (bits w) r) f tt
+number-given (raw.Raw r) i size at w h f = at_field i (Ok (Number (bits w) r)) f tt
 number-given (raw.BadWidth n) i size at w h f = absurd (h n refl)
 number-given raw.OutOfRange i size at w h f = refl
 number-given raw.WrongKind i size at w h f = refl
@@ -73,10 +72,10 @@ module _ (b : PgnBytes) (i lent size at : ℕ) where
       (either (eqb (at % 8) 0) _ _ room refl)
       room)
     where
-      room : Given (if_room_lem i size at n (Text (bits n) lead b))
-      room = either (ltb (size * 8) (at + n)) _ (Text (bits n) lead b) refl tt
+      room : Given (if_room_lem i size at n (Ok (Text (bits n) lead b)))
+      room = either (ltb (size * 8) (at + n)) _ (Ok (Text (bits n) lead b)) refl tt
 
-  bare-given : (e : Encoding) (w : Weighed) → Given w → Given (unencoded e i w)
+  bare-given : (e : Encoding) (w : Result Weighed EncodeRefusal) → Given w → Given (unencoded e i w)
   bare-given encoding.Absent w h = h
   bare-given (encoding.Byte x) w h = refl
 
@@ -84,7 +83,7 @@ module _ (b : PgnBytes) (i lent size at : ℕ) where
   lau-given encoding.Absent = either (eqb b.len.0 0) _ _ (text-given false false 0 8 Empty) refl
   lau-given (encoding.Byte x) = text-given (ltb text_max b.len.0) (not (eqb b.len.0 0)) 16 (16 + 8 * b.len.0) (Encoded x)
 
-bytes-given : (v : PgnValue) (i : ℕ) (says : PgnBytes → Weighed) → ((b : PgnBytes) → Given (says b)) → Given (by_bytes v i says)
+bytes-given : (v : PgnValue) (i : ℕ) (says : PgnBytes → Result Weighed EncodeRefusal) → ((b : PgnBytes) → Given (says b)) → Given (by_bytes v i says)
 bytes-given (Bytes b) i says h = h b
 bytes-given (U64 n) i says h = refl
 bytes-given (U32 n) i says h = refl
@@ -102,7 +101,7 @@ bytes-given (F32 x) i says h = refl
 shape-given : (sh : Shape) (f : FieldDescriptor) (i : ℕ) (v : PgnValue) (lent size at : ℕ) → (is_number sh ≡ true → holds_of f ≡ holds.Number)
     → (in_bits sh ≡ true → Fair (room_of size at f.width width_max)) → Given (weighed_by sh f i v lent size at)
 shape-given (shape.Number strict) f i v lent size at k h = number-given (raw_of_lem f v) i size at f.width (sized f v (k refl)) (h refl)
-shape-given shape.Gap f i v lent size at k h = at_field i (Gap (bits f.width)) (h refl) tt
+shape-given shape.Gap f i v lent size at k h = at_field i (Ok (Gap (bits f.width))) (h refl) tt
 shape-given shape.Fixed f i v lent size at k h =
     bytes-given v i _ (λ b. bare-given b i lent size at b.encoding _ (text-given b i lent size at (ltb (f.width / 8) b.len.0) true 0 (8 * (f.width / 8)) Bare))
 shape-given shape.Whole f i v lent size at k h =
@@ -118,7 +117,7 @@ module _ (t : Table) (ok : check_of t ≡ Ok tt) (i : ℕ) (l : i < t.count) (si
       either (ltb payload_max size) _ _ refl (shape-given (shape_of (t.field i)) (t.field i) i v lent size at (holds-number t ok i l) (λ s. bits-fair t ok i l s size small at))
 
   pub gap-given : is_gap_lem (shape_of (t.field i)) ≡ true → Given (gap_of (t.field i) i size at)
-  gap-given g = at_field i (Gap (bits (t.field i).width)) (bits-fair t ok i l (in-bits (shape_of (t.field i)) g) size small at) tt
+  gap-given g = at_field i (Ok (Gap (bits (t.field i).width))) (bits-fair t ok i l (in-bits (shape_of (t.field i)) g) size small at) tt
     where
       in-bits : (sh : Shape) → is_gap_lem sh ≡ true → in_bits sh ≡ true
       in-bits (shape.Number strict) h = refl

@@ -1,4 +1,5 @@
 -- A value that is no text, a number of bits that does not matter where the text is too long, and tests that say the same. Assumes nothing.
+use Rattle.std.specs.Prelude.{Result, Err}
 use mathlib.Core.Path.{◌≡◌, refl, sym, ap, ◌∙◌}
 use mathlib.Core.Bool.{Bool, true, false, not}
 use mathlib.Core.List.{[], ◌∷◌}
@@ -8,6 +9,7 @@ use lib.Dec.{eqb, ltb, leb}
 use denote.Enum.Declared.{tag_of}
 use types.Run.{OneOf, miss}
 use borrow.Author.Tests.{ltb-true, ltb-false, leb-true, leb-false, eqb-true, eqb-false, lt-ltb, le-ltb, eq-eqb, ne_eqb}
+use Rattle.weighing.specs.declared.EncodeRefusal.{EncodeRefusal}
 use Rattle.descriptor.specs.declared.PgnBytes.{PgnBytes}
 use Rattle.descriptor.specs.declared.PgnValue.{PgnValue}
 use Rattle.descriptor.specs.declared.PgnValue.TheVariants.{U64, U32, U16, U8, I64, I32, I16, I8, F64, F32, Bytes}
@@ -15,10 +17,9 @@ use Rattle.descriptor.specs.contracts.PgnValue.{the_type}
 use Rattle.weighing.specs.declared.EncodeRefusal.TheVariants.{WrongKind}
 use Rattle.weighing.specs.declared.Lead.{Lead}
 use Rattle.weighing.specs.declared.Weighed.{Weighed}
-use Rattle.weighing.specs.declared.Weighed.TheVariants.{Refused}
 use Rattle.weighing.specs.Weigh.{text_by, by_bytes}
 
-pub no_bytes : (v : PgnValue) (i : ℕ) (says : PgnBytes → Weighed) → OneOf (0 ∷ 1 ∷ 2 ∷ 3 ∷ 4 ∷ 5 ∷ 6 ∷ 7 ∷ 8 ∷ 9 ∷ []) (tag_of the_type v) → Refused (WrongKind i) ≡ by_bytes v i says
+pub no_bytes : (v : PgnValue) (i : ℕ) (says : PgnBytes → Result Weighed EncodeRefusal) → OneOf (0 ∷ 1 ∷ 2 ∷ 3 ∷ 4 ∷ 5 ∷ 6 ∷ 7 ∷ 8 ∷ 9 ∷ []) (tag_of the_type v) → Err (WrongKind i) ≡ by_bytes v i says
 no_bytes (U64 n) i says k = refl
 no_bytes (U32 n) i says k = refl
 no_bytes (U16 n) i says k = refl
@@ -33,14 +34,14 @@ no_bytes (Bytes b) i says k = absurd (miss (0 ∷ 1 ∷ 2 ∷ 3 ∷ 4 ∷ 5 ∷ 
 
 -- how many bits a text takes matters only if it is not too long
 module _ (b : PgnBytes) (i lent size at put : ℕ) (lead : Lead) where
-  abbrev taking : Bool → ℕ → Weighed
+  abbrev taking : Bool → ℕ → Result Weighed EncodeRefusal
   taking over m = text_by b i lent size at over (not (eqb b.len.0 0)) put (16 + 8 * m) lead
 
   taking-by : (over : Bool) {m : ℕ} → (over ≡ false → m ≡ b.len.0) → taking over m ≡ taking over b.len.0
   taking-by true h = refl
   taking-by false h = ap (taking false) (h refl)
 
-  pub counted : {m : ℕ} {w : Weighed} → m ≡ min b.len.0 221 → w ≡ taking (ltb 221 b.len.0) m → w ≡ taking (ltb 221 b.len.0) b.len.0
+  pub counted : {m : ℕ} {w : Result Weighed EncodeRefusal} → m ≡ min b.len.0 221 → w ≡ taking (ltb 221 b.len.0) m → w ≡ taking (ltb 221 b.len.0) b.len.0
   counted e h = h ∙ taking-by (ltb 221 b.len.0) (λ t. omega (arith, e, ltb-false 221 b.len.0 t))
 
 -- ## Tests that say the same

@@ -72,7 +72,7 @@ pub enum Lead {
     Empty,
 }
 
-// The answer of `weigh_field`.
+// What a field takes, if it is not refused.
 #[derive(Clone, Copy)]
 pub enum Weighed {
     Number {
@@ -89,5 +89,4 @@ pub enum Weighed {
         lead: Lead,
         text: PgnBytes,
     },
-    Refused(EncodeRefusal),
 }

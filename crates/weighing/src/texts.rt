@@ -2,243 +2,156 @@
 // instead.
 ghost use Rattle.std.specs.Prelude.{◌≡◌, ◌+◌, ◌-◌, ◌*◌, ◌≤◌, not, eqb, ltb};
 ghost use Rattle.tables.specs.Check.{payload_max};
-ghost use Rattle.weighing.specs.Weigh.{if_room_lem, if_aligned_lem, text_by, fixed_of, whole_of, lz_of, lau_by, by_bytes, unencoded as unencodedBy};
+ghost use Rattle.weighing.specs.Weigh.{text_by, fixed_of, whole_of, lz_of, lau_by, by_bytes};
 
 use crate::{EncodeRefusal, Lead, Weighed};
-use bits::{BitPos, BitRefusal, least, sum};
+use bits::{BitPos, BitRefusal};
 use descriptor::{Encoding, PgnBytes, PgnValue};
 
 const TEXT_MAX: usize = 221;
+
+// Where a text would stand: a field, a bit of a buffer of `size` bytes, and how long the lent text is.
+#[derive(Clone, Copy)]
+pub(crate) struct Site {
+    pub(crate) field: usize,
+    pub(crate) lent: usize,
+    pub(crate) size: usize,
+    pub(crate) at: usize,
+    ghost small: { size ≤ payload_max },
+}
 
 // Whether a text reaches past the lent one.
 fn is_past(b: PgnBytes, lent: usize) -> bool
     ensures { result ≡ ltb lent (b.start.0 + b.len.0) }
 {
-    let start = b.start.0;
-    let len = b.len.0;
-    if lent < len {
-        return true;
-    }
-    lent - len < start
-}
-
-// 2, which counts the bits of the whole field; else what follows.
-fn if_room(i: usize, size: usize, at: usize, n: usize, later: Weighed) -> Weighed
-    requires { size ≤ payload_max }
-    ensures { result ≡ if_room_lem i size at n later }
-{
-    let left = room_left(size, at);
-    if fits(size, at, n) {
-        return later;
-    }
-    Weighed::Refused(EncodeRefusal::BitWriteError {
-        field: i,
-        refusal: BitRefusal::OutOfBits {
-            asked: BitPos(n),
-            available: BitPos(left),
-        },
-    })
-}
-
-// The bits from `at` on.
-fn room_left(size: usize, at: usize) -> usize
-    requires { size ≤ payload_max }
-    ensures { result ≡ size * 8 - at }
-{
-    let end = size * 8;
-    if at < end { end - at } else { 0 }
-}
-
-// Whether n bits from `at` on lie in it.
-fn fits(size: usize, at: usize, n: usize) -> bool
-    requires { size ≤ payload_max }
-    ensures { result ≡ not (ltb (size * 8) (at + n)) }
-{
-    let end = size * 8;
-    if end < at {
-        return false;
-    }
-    n <= end - at
-}
-
-// 3, with the bit at which the text would stand; else what follows.
-fn if_aligned(i: usize, at: usize, lead: usize, later: Weighed) -> Weighed
-    ensures { result ≡ if_aligned_lem i at lead later }
-{
-    if at % 8 == 0 {
-        return later;
-    }
-    let cursor = sum(at, lead);
-    Weighed::Refused(EncodeRefusal::BitWriteError {
-        field: i,
-        refusal: BitRefusal::NonAlignedBit {
-            cursor: BitPos(cursor),
-        },
-    })
-}
-
-// A text of a field that takes n bits: 13, 3 where it is asked, 2.
-fn text(
-    b: PgnBytes,
-    i: usize,
-    lent: usize,
-    size: usize,
-    at: usize,
-    over: bool,
-    aligned: bool,
-    put: usize,
-    n: usize,
-    lead: Lead,
-) -> Weighed
-    requires { size ≤ payload_max }
-    ensures { result ≡ text_by b i lent size at over aligned put n lead }
-{
-    if over {
-        return Weighed::Refused(EncodeRefusal::TextTooLong { field: i });
-    }
-    if is_past(b, lent) {
-        return Weighed::Refused(EncodeRefusal::TextTooLong { field: i });
-    }
-    let told = Weighed::Text {
-        bits: BitPos(n),
-        lead,
-        text: b,
-    };
-    let weighed = if_room(i, size, at, n, told);
-    if aligned {
-        return if_aligned(i, at, put, weighed);
-    }
-    weighed
-}
-
-// 11 if there is an encoding byte; else what follows.
-fn unencoded(encoding: Encoding, i: usize, later: Weighed) -> Weighed
-    ensures { result ≡ unencodedBy encoding i later }
-{
-    match encoding {
-        Encoding::Absent => later,
-        Encoding::Byte(_) => Weighed::Refused(EncodeRefusal::WrongKind { field: i }),
-    }
-}
-
-pub(crate) fn fixed(
-    value: PgnValue,
-    i: usize,
-    lent: usize,
-    size: usize,
-    at: usize,
-    width: u32,
-) -> Weighed
-    requires { size ≤ payload_max }
-    ensures { result ≡ by_bytes value i (λ b. fixed_of b i lent size at width) }
-{
-    let PgnValue::Bytes(b) = value else {
-        return Weighed::Refused(EncodeRefusal::WrongKind { field: i });
-    };
-    let encoding = b.encoding;
-    let len = b.len.0;
-    let whole = (width as usize) / 8;
-    let weighed = text(
-        b,
-        i,
-        lent,
-        size,
-        at,
-        whole < len,
-        true,
-        0,
-        8 * whole,
-        Lead::Bare,
-    );
-    unencoded(encoding, i, weighed)
-}
-
-pub(crate) fn whole(
-    value: PgnValue,
-    i: usize,
-    lent: usize,
-    size: usize,
-    at: usize,
-    width: u32,
-) -> Weighed
-    requires { size ≤ payload_max }
-    ensures { result ≡ by_bytes value i (λ b. whole_of b i lent size at width) }
-{
-    let PgnValue::Bytes(b) = value else {
-        return Weighed::Refused(EncodeRefusal::WrongKind { field: i });
-    };
-    let encoding = b.encoding;
-    let w = width as usize;
-    let over = is_unlike(b.len.0, w);
-    let weighed = text(b, i, lent, size, at, over, true, 0, w, Lead::Bare);
-    unencoded(encoding, i, weighed)
+    lent < b.len.0 || lent - b.len.0 < b.start.0
 }
 
 // Whether n bytes are not w bits.
 fn is_unlike(n: usize, w: usize) -> bool
     ensures { result ≡ not (eqb (8 * n) w) }
 {
-    if w % 8 == 0 {
-        return n != w / 8;
+    w % 8 != 0 || n != w / 8
+}
+
+impl Site {
+    // The bits from `at` on.
+    fn left(self) -> usize
+        ensures { result ≡ self.size * 8 - self.at }
+    {
+        (self.size * 8).saturating_sub(self.at)
     }
-    true
-}
 
-pub(crate) fn lz(value: PgnValue, i: usize, lent: usize, size: usize, at: usize) -> Weighed
-    requires { size ≤ payload_max }
-    ensures { result ≡ by_bytes value i (λ b. lz_of b i lent size at) }
-{
-    let PgnValue::Bytes(b) = value else {
-        return Weighed::Refused(EncodeRefusal::WrongKind { field: i });
-    };
-    let encoding = b.encoding;
-    let len = b.len.0;
-    let n = 16 + 8 * least(len, TEXT_MAX);
-    let weighed = text(
-        b,
-        i,
-        lent,
-        size,
-        at,
-        TEXT_MAX < len,
-        len != 0,
-        8,
-        n,
-        Lead::Counted,
-    );
-    unencoded(encoding, i, weighed)
-}
+    // Whether n bits from `at` on lie in the buffer.
+    fn fits(self, n: usize) -> bool
+        ensures { result ≡ not (ltb (self.size * 8) (self.at + n)) }
+    {
+        self.at.saturating_add(n) <= self.size * 8
+    }
 
-pub(crate) fn lau(value: PgnValue, i: usize, lent: usize, size: usize, at: usize) -> Weighed
-    requires { size ≤ payload_max }
-    ensures { result ≡ by_bytes value i (λ b. lau_by b.encoding b i lent size at) }
-{
-    let PgnValue::Bytes(b) = value else {
-        return Weighed::Refused(EncodeRefusal::WrongKind { field: i });
-    };
-    let encoding = b.encoding;
-    let len = b.len.0;
-    match encoding {
-        Encoding::Absent => {
-            if len == 0 {
-                return text(b, i, lent, size, at, false, false, 0, 8, Lead::Empty);
-            }
-            Weighed::Refused(EncodeRefusal::WrongKind { field: i })
+    // What a bit call would refuse.
+    fn bits_refused(self, refusal: BitRefusal) -> EncodeRefusal
+        ensures { result ≡ EncodeRefusal.BitWriteError self.field refusal }
+    {
+        EncodeRefusal::BitWriteError {
+            field: self.field,
+            refusal,
         }
-        Encoding::Byte(x) => {
-            let n = 16 + 8 * least(len, TEXT_MAX);
-            text(
-                b,
-                i,
-                lent,
-                size,
-                at,
-                TEXT_MAX < len,
-                len != 0,
-                16,
-                n,
-                Lead::Encoded(x),
-            )
+    }
+
+    // A text of a field that takes n bits: 13; 3 where it is asked, with the bit at which the text would
+    // stand; 2, which counts the bits of the whole field.
+    fn text(
+        self,
+        b: PgnBytes,
+        over: bool,
+        aligned: bool,
+        put: usize,
+        n: usize,
+        lead: Lead,
+    ) -> Result<Weighed, EncodeRefusal>
+        ensures { result ≡ text_by b self.field self.lent self.size self.at over aligned put n lead }
+    {
+        if over || is_past(b, self.lent) {
+            return Err(EncodeRefusal::TextTooLong { field: self.field });
+        }
+        if aligned && self.at % 8 != 0 {
+            let cursor = BitPos(self.at.saturating_add(put));
+            return Err(self.bits_refused(BitRefusal::NonAlignedBit { cursor }));
+        }
+        if !self.fits(n) {
+            let asked = BitPos(n);
+            let available = BitPos(self.left());
+            return Err(self.bits_refused(BitRefusal::OutOfBits { asked, available }));
+        }
+        Ok(Weighed::Text {
+            bits: BitPos(n),
+            lead,
+            text: b,
+        })
+    }
+
+    // 11: a value of another kind, or text with an encoding byte where none is taken.
+    fn wrong_kind(self) -> EncodeRefusal
+        ensures { result ≡ EncodeRefusal.WrongKind self.field }
+    {
+        EncodeRefusal::WrongKind { field: self.field }
+    }
+
+    pub(crate) fn fixed(self, value: PgnValue, width: u32) -> Result<Weighed, EncodeRefusal>
+        ensures { result ≡ by_bytes value self.field (λ b. fixed_of b self.field self.lent self.size self.at width) }
+    {
+        let PgnValue::Bytes(b) = value else {
+            return Err(self.wrong_kind());
+        };
+        let Encoding::Absent = b.encoding else {
+            return Err(self.wrong_kind());
+        };
+        let whole = (width as usize) / 8;
+        self.text(b, whole < b.len.0, true, 0, 8 * whole, Lead::Bare)
+    }
+
+    pub(crate) fn whole(self, value: PgnValue, width: u32) -> Result<Weighed, EncodeRefusal>
+        ensures { result ≡ by_bytes value self.field (λ b. whole_of b self.field self.lent self.size self.at width) }
+    {
+        let PgnValue::Bytes(b) = value else {
+            return Err(self.wrong_kind());
+        };
+        let Encoding::Absent = b.encoding else {
+            return Err(self.wrong_kind());
+        };
+        let w = width as usize;
+        self.text(b, is_unlike(b.len.0, w), true, 0, w, Lead::Bare)
+    }
+
+    pub(crate) fn lz(self, value: PgnValue) -> Result<Weighed, EncodeRefusal>
+        ensures { result ≡ by_bytes value self.field (λ b. lz_of b self.field self.lent self.size self.at) }
+    {
+        let PgnValue::Bytes(b) = value else {
+            return Err(self.wrong_kind());
+        };
+        let Encoding::Absent = b.encoding else {
+            return Err(self.wrong_kind());
+        };
+        let len = b.len.0;
+        let n = 16 + 8 * len.min(TEXT_MAX);
+        self.text(b, TEXT_MAX < len, len != 0, 8, n, Lead::Counted)
+    }
+
+    pub(crate) fn lau(self, value: PgnValue) -> Result<Weighed, EncodeRefusal>
+        ensures { result ≡ by_bytes value self.field (λ b. lau_by b.encoding b self.field self.lent self.size self.at) }
+    {
+        let PgnValue::Bytes(b) = value else {
+            return Err(self.wrong_kind());
+        };
+        let len = b.len.0;
+        match b.encoding {
+            Encoding::Absent if len == 0 => self.text(b, false, false, 0, 8, Lead::Empty),
+            Encoding::Absent => Err(self.wrong_kind()),
+            Encoding::Byte(x) => {
+                let n = 16 + 8 * len.min(TEXT_MAX);
+                self.text(b, TEXT_MAX < len, len != 0, 16, n, Lead::Encoded(x))
+            }
         }
     }
 }

@@ -3,62 +3,65 @@ ghost use Rattle.std.specs.Prelude.{◌≡◌};
 ghost use Rattle.numbers.specs.Conversions.{raw_of_lem};
 ghost use Rattle.weighing.specs.Weigh.{at_field_lem, number_by, gap_of, weighed_of};
 
-use crate::{EncodeRefusal, Weighed, texts};
+use crate::texts::Site;
+use crate::{EncodeRefusal, Weighed};
 use bits::{BitPos, BitRefusal, ByteCount, Room};
 use descriptor::{FieldDescriptor, PgnValue};
 use fields::Shape;
 use numbers::RawOf;
 
 // A number.
-fn number(f: FieldDescriptor, i: usize, value: PgnValue, size: usize, at: usize) -> Weighed
+fn number(
+    f: FieldDescriptor,
+    i: usize,
+    value: PgnValue,
+    size: usize,
+    at: usize,
+) -> Result<Weighed, EncodeRefusal>
     ensures { result ≡ number_by (raw_of_lem f value) i size at f.width }
 {
-    let width = f.width;
     match numbers::number_to_raw(f, value) {
         RawOf::Raw(raw) => {
-            let taken = width as usize;
+            let bits = BitPos(f.width as usize);
             at_field(
-                bits::room_for(size, at, width, 64),
+                bits::room_for(size, at, f.width, 64),
                 i,
-                Weighed::Number {
-                    bits: BitPos(taken),
-                    raw,
-                },
+                Weighed::Number { bits, raw },
             )
         }
-        RawOf::BadWidth(asked) => Weighed::Refused(EncodeRefusal::BitWriteError {
+        RawOf::BadWidth(asked) => Err(EncodeRefusal::BitWriteError {
             field: i,
             refusal: BitRefusal::TooLongForType { max: 64, asked },
         }),
-        RawOf::OutOfRange => Weighed::Refused(EncodeRefusal::OutOfRange { field: i }),
-        RawOf::WrongKind => Weighed::Refused(EncodeRefusal::WrongKind { field: i }),
+        RawOf::OutOfRange => Err(EncodeRefusal::OutOfRange { field: i }),
+        RawOf::WrongKind => Err(EncodeRefusal::WrongKind { field: i }),
     }
 }
 
-// What a bit call would refuse, at field i; else what follows.
-fn at_field(room: Room, i: usize, later: Weighed) -> Weighed
-    ensures { result ≡ at_field_lem room i later }
+// What a bit call would refuse, at field i; else what was weighed.
+fn at_field(room: Room, i: usize, weighed: Weighed) -> Result<Weighed, EncodeRefusal>
+    ensures { result ≡ at_field_lem room i (Ok weighed) }
 {
     match room {
-        Room::Fits => later,
-        Room::Refused(refusal) => {
-            Weighed::Refused(EncodeRefusal::BitWriteError { field: i, refusal })
-        }
+        Room::Fits => Ok(weighed),
+        Room::Refused(refusal) => Err(EncodeRefusal::BitWriteError { field: i, refusal }),
     }
 }
 
 // Bits that stay ones, in field i: they take no value.
-pub fn weigh_gap(f: FieldDescriptor, i: usize, size: usize, at: BitPos) -> Weighed
+pub fn weigh_gap(
+    f: FieldDescriptor,
+    i: usize,
+    size: usize,
+    at: BitPos,
+) -> Result<Weighed, EncodeRefusal>
     ensures { result ≡ gap_of f i size at.0 }
 {
-    let width = f.width;
-    let taken = width as usize;
+    let bits = BitPos(f.width as usize);
     at_field(
-        bits::room_for(size, at.0, width, 64),
+        bits::room_for(size, at.0, f.width, 64),
         i,
-        Weighed::Gap {
-            bits: BitPos(taken),
-        },
+        Weighed::Gap { bits },
     )
 }
 
@@ -70,21 +73,26 @@ pub fn weigh_field(
     lent: usize,
     size: usize,
     at: BitPos,
-) -> Weighed
+) -> Result<Weighed, EncodeRefusal>
     ensures { result ≡ weighed_of f i value lent size at.0 }
 {
     if tables::PAYLOAD_MAX < size {
-        return Weighed::Refused(EncodeRefusal::WrongLength {
+        return Err(EncodeRefusal::WrongLength {
             length: ByteCount(size),
         });
     }
-    let width = f.width;
+    let site = Site {
+        field: i,
+        lent,
+        size,
+        at: at.0,
+    };
     match fields::shape_of(f) {
         Shape::Number { strict: _ } => number(f, i, value, size, at.0),
         Shape::Gap => weigh_gap(f, i, size, at),
-        Shape::Fixed => texts::fixed(value, i, lent, size, at.0, width),
-        Shape::Whole => texts::whole(value, i, lent, size, at.0, width),
-        Shape::Lau => texts::lau(value, i, lent, size, at.0),
-        Shape::Lz => texts::lz(value, i, lent, size, at.0),
+        Shape::Fixed => site.fixed(value, f.width),
+        Shape::Whole => site.whole(value, f.width),
+        Shape::Lau => site.lau(value),
+        Shape::Lz => site.lz(value),
     }
 }

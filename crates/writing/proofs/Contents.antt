@@ -1,8 +1,10 @@
 -- What is written at a field, by its shape and the offer; and that it lies in the buffer. Assumes nothing.
+use Rattle.std.specs.Prelude.{Result, Ok, Err}
 use mathlib.Core.Path.{◌≡◌, refl}
 use mathlib.Core.Bool.{Bool, true, false, false≢true}
 use Prim.Native.Nat.{ℕ}
 use native.Mathlib.Omega.{arith}
+use Rattle.weighing.specs.declared.EncodeRefusal.{EncodeRefusal}
 use Rattle.bits.specs.Bits.{pick}
 use Rattle.descriptor.specs.declared.FieldDescriptor.{FieldDescriptor}
 use Rattle.tables.specs.Table.{Table}
@@ -43,11 +45,11 @@ module _ (size at lent : ℕ) where
       go true = gap-puts size at lent f i
       go false = offered o
 
-  puttable-in : (w : Weighed) → Puttable size at w lent → Reaches at w
-  puttable-in (weighed.Number n r) h = omega (arith, h.0, h.1.1.1)
-  puttable-in (weighed.Gap n) h = omega (arith, h.0, h.1)
-  puttable-in (weighed.Text n lead b) h = omega (arith, h.0, h.1.0)
-  puttable-in (weighed.Refused e) h = refl
+  puttable-in : (w : Result Weighed EncodeRefusal) → Puttable size at w lent → Reaches at w
+  puttable-in (Ok (weighed.Number n r)) h = omega (arith, h.0, h.1.1.1)
+  puttable-in (Ok (weighed.Gap n)) h = omega (arith, h.0, h.1)
+  puttable-in (Ok (weighed.Text n lead b)) h = omega (arith, h.0, h.1.0)
+  puttable-in (Err e) h = refl
 
   -- .. and the cursor after it in 64 bits
   pub content-in : (o : Offer) (f : FieldDescriptor) (i : ℕ) → Reaches at (content_of_lem o f i lent size at)

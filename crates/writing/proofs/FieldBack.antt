@@ -1,5 +1,6 @@
 -- One field that was weighed and is held by a payload is read back: it takes the bits that it was written in (`taken_back`), is read as what was
 -- written (`raw-back`, `reads_as`), and so is its reading (`back`). Assumes nothing.
+use Rattle.std.specs.Prelude.{Result, Ok, Err, Some, None}
 use mathlib.Core.Path.{◌≡◌, refl, sym, ap, ◌∙◌, subst}
 use mathlib.Core.Bool.{Bool}
 use mathlib.Core.List.{List, [], ◌∷◌, ◌++◌}
@@ -9,7 +10,6 @@ use native.Mathlib.Omega.{arith}
 use lib.ListN.{length}
 use lib.Dec.{eqb}
 use borrow.Author.Tests.{le-ltb}
-use Rattle.std.specs.Prelude.{Some, None, Result, Ok}
 use Rattle.bits.specs.Bits.{pick}
 use Rattle.bits.specs.Calls.{bits}
 use Rattle.bits.specs.declared.BitPos.{BitPos}
@@ -41,7 +41,7 @@ use Rattle.weighing.specs.declared.EncodeRefusal.{EncodeRefusal}
 use Rattle.weighing.specs.declared.Lead.{Lead}
 use Rattle.weighing.specs.declared.Lead.TheVariants.{Bare, Counted, Encoded}
 use Rattle.weighing.specs.declared.Weighed.{Weighed}
-use Rattle.weighing.specs.declared.Weighed.TheVariants.{Number, Gap, Text, Refused}
+use Rattle.weighing.specs.declared.Weighed.TheVariants.{Number, Gap, Text}
 use Rattle.writing.specs.Ink.{text_in_lem}
 use Rattle.writing.specs.Encode.{mark_at, content_of_lem}
 use Rattle.writing.specs.Strokes.{size_of, span_of}
@@ -53,29 +53,29 @@ use Rattle.writing.proofs.BytesBack.{part_bytes, filled-bytes, Stand, stand-head
 use Rattle.writing.proofs.FieldTaken.{number-took, gap-took, fixed-took, whole-took, lz-took, lau-took, absent-took}
 
 -- a field of which that was written is read as this
-pub data ReadsAs (f : FieldDescriptor) (x : Result FieldRead DecodeRefusal) : Weighed → Type 0 where
-  as_number : {n : BitPos} {r : ℕ} → x ≡ Ok (read.Got n (Some r) (scale_of f r)) → ReadsAs f x (Number n r)
-  as-gap : {n : BitPos} → x ≡ Ok (read.Skipped n) → ReadsAs f x (Gap n)
-  as-text : {n : BitPos} {lead : Lead} {b : PgnBytes} (v : PgnValue) → x ≡ Ok (read.Got n None v) → ReadsAs f x (Text n lead b)
-  as-refused : {e : EncodeRefusal} → ReadsAs f x (Refused e)
+pub data ReadsAs (f : FieldDescriptor) (x : Result FieldRead DecodeRefusal) : Result Weighed EncodeRefusal → Type 0 where
+  as_number : {n : BitPos} {r : ℕ} → x ≡ Ok (read.Got n (Some r) (scale_of f r)) → ReadsAs f x (Ok (Number n r))
+  as-gap : {n : BitPos} → x ≡ Ok (read.Skipped n) → ReadsAs f x (Ok (Gap n))
+  as-text : {n : BitPos} {lead : Lead} {b : PgnBytes} (v : PgnValue) → x ≡ Ok (read.Got n None v) → ReadsAs f x (Ok (Text n lead b))
+  as-refused : {e : EncodeRefusal} → ReadsAs f x (Err e)
 
 -- `G` is what is known of a value that is offered: its raw has no bit past the field's width, its encoding byte is a byte
 module _ (G : PgnValue → Type 0) (byte_fits : (b : PgnBytes) (x : ℕ) → G (Bytes b) → b.encoding ≡ encoding.Byte x → x < 256)
     (p : Payload) (small : p.size ≤ payload_max) (lent : List ℕ) (bytes : AllBytes lent) where
   module _ (f : FieldDescriptor) (fits : (v : PgnValue) (r : ℕ) → G v → raw_of_lem f v ≡ rawed.Raw r → f.width ≤ 64 → r < 2 ^ f.width) (e : Element) (i at : ℕ) where
-    abbrev M : Shape → Weighed → Type 0
+    abbrev M : Shape → Result Weighed EncodeRefusal → Type 0
     M = Meant G f (length lent) at
 
-    abbrev H : Weighed → Type 0
+    abbrev H : Result Weighed EncodeRefusal → Type 0
     H w = Holds p lent (mark_at i e at w)
 
     -- the length byte of a StringLz, and the zero after it
-    lz-length : (b : PgnBytes) → b.len.0 ≤ 221 → b.start.0 + b.len.0 ≤ length lent → H (Text (bits (16 + 8 * b.len.0)) Counted b) → p.bits at 8 ≡ b.len.0
+    lz-length : (b : PgnBytes) → b.len.0 ≤ 221 → b.start.0 + b.len.0 ≤ length lent → H (Ok (Text (bits (16 + 8 * b.len.0)) Counted b)) → p.bits at 8 ≡ b.len.0
     lz-length b l m h =
         let q = text-long lent b.start.0 b.len.0 m in
         stand-head p at (length (text_in_lem lent b)) (text_in_lem lent b ++ 0 ∷ []) (omega (arith, q, l)) h.inked ∙ q
 
-    lz-zero : (b : PgnBytes) → b.start.0 + b.len.0 ≤ length lent → H (Text (bits (16 + 8 * b.len.0)) Counted b) → p.bits (at + (8 + 8 * b.len.0)) 8 ≡ 0
+    lz-zero : (b : PgnBytes) → b.start.0 + b.len.0 ≤ length lent → H (Ok (Text (bits (16 + 8 * b.len.0)) Counted b)) → p.bits (at + (8 + 8 * b.len.0)) 8 ≡ 0
     lz-zero b m h =
         let text = text_in_lem lent b in
         let q = text-long lent b.start.0 b.len.0 m in
@@ -83,13 +83,13 @@ module _ (G : PgnValue → Type 0) (byte_fits : (b : PgnBytes) (x : ℕ) → G (
         ap (λ (k : ℕ). p.bits k 8) z ∙ stand-after p (at + 8) 0 text [] (stand-tail p at (at + 8) (length text) (text ++ 0 ∷ []) refl h.inked)
 
     -- of a StringLau
-    lau-length : (b : PgnBytes) (x : ℕ) → b.len.0 ≤ 221 → b.start.0 + b.len.0 ≤ length lent → H (Text (bits (16 + 8 * b.len.0)) (Encoded x) b) → p.bits at 8 ≡ b.len.0 + 2
+    lau-length : (b : PgnBytes) (x : ℕ) → b.len.0 ≤ 221 → b.start.0 + b.len.0 ≤ length lent → H (Ok (Text (bits (16 + 8 * b.len.0)) (Encoded x) b)) → p.bits at 8 ≡ b.len.0 + 2
     lau-length b x l m h =
         let q = text-long lent b.start.0 b.len.0 m in
         stand-head p at (length (text_in_lem lent b) + 2) (x ∷ text_in_lem lent b) (omega (arith, q, l)) h.inked ∙ ap (λ (k : ℕ). k + 2) q
 
     -- it takes the bits that it was written in
-    takes : (last : Bool) {sh : Shape} {w : Weighed} → M sh w → H w → Kept w → taken_by sh p i last f.width at ≡ Ok (size_of w).0
+    takes : (last : Bool) {sh : Shape} {w : Result Weighed EncodeRefusal} → M sh w → H w → Kept w → taken_by sh p i last f.width at ≡ Ok (size_of w).0
     takes last (a-number {strict = strict} v g q l m) h k = number-took p small i last f.width at strict l m h.inside
     takes last (a-gap l m) h k = gap-took p small i last f.width at l m h.inside
     takes last (a-fixed a l m) h k = fixed-took p small i last f.width at a h.inside
@@ -102,17 +102,17 @@ module _ (G : PgnValue → Type 0) (byte_fits : (b : PgnBytes) (x : ℕ) → G (
     takes last refused h k = absurd k
 
     -- the raw is the one that was written
-    raw-in : (v : PgnValue) (r : ℕ) → G v → raw_of_lem f v ≡ rawed.Raw r → f.width ≤ 64 → H (Number (bits f.width) r) → p.bits at f.width ≡ r
+    raw-in : (v : PgnValue) (r : ℕ) → G v → raw_of_lem f v ≡ rawed.Raw r → f.width ≤ 64 → H (Ok (Number (bits f.width) r)) → p.bits at f.width ≡ r
     raw-in v r g q m h = h.inked ∙ mod-eq_of_lt (fits v r g q m)
 
-    raw-is : {sh : Shape} {n : BitPos} {r : ℕ} → M sh (Number n r) → H (Number n r) → p.bits at n.0 ≡ r
+    raw-is : {sh : Shape} {n : BitPos} {r : ℕ} → M sh (Ok (Number n r)) → H (Ok (Number n r)) → p.bits at n.0 ≡ r
     raw-is (a-number v {r = r} g q l m) h = raw-in v r g q m h
 
     -- what is read of it
     over : (sh : Shape) {x : Result ℕ DecodeRefusal} {n : ℕ} → x ≡ Ok n → read_over x sh f p at ≡ Ok (read_as sh f p at n)
     over sh q = ap (λ (y : Result ℕ DecodeRefusal). read_over y sh f p at) q
 
-    reads-by : {sh : Shape} {w : Weighed} → M sh w → H w → (x : Result ℕ DecodeRefusal) → (Kept w → x ≡ Ok (size_of w).0) → ReadsAs f (read_over x sh f p at) w
+    reads-by : {sh : Shape} {w : Result Weighed EncodeRefusal} → M sh w → H w → (x : Result ℕ DecodeRefusal) → (Kept w → x ≡ Ok (size_of w).0) → ReadsAs f (read_over x sh f p at) w
     reads-by (a-number {strict = strict} v {r = r} g q l m) h x k =
         as_number (over (shape.Number strict) (k tt) ∙ ap (λ (y : ℕ). Ok (read.Got (bits f.width) (Some y) (scale_of f y))) (raw-in v r g q m h))
     reads-by (a-gap l m) h x k = as-gap (over shape.Gap (k tt))
@@ -126,7 +126,7 @@ module _ (G : PgnValue → Type 0) (byte_fits : (b : PgnBytes) (x : ℕ) → G (
     -- ## Bytes
 
     -- a StringFix or a Binary, of n bits
-    bare-bytes : (b : PgnBytes) (n : ℕ) → at % 8 ≡ 0 → b.len.0 ≤ n / 8 → b.start.0 + b.len.0 ≤ length lent → H (Text (bits n) Bare b)
+    bare-bytes : (b : PgnBytes) (n : ℕ) → at % 8 ≡ 0 → b.len.0 ≤ n / 8 → b.start.0 + b.len.0 ≤ length lent → H (Ok (Text (bits n) Bare b))
         → bytes_at p (pick (eqb (n / 8) 0) 0 (at / 8)) (n / 8) ≡ text_back Bare n (text_in_lem lent b)
     bare-bytes b n a l m h =
         let text = text_in_lem lent b in
@@ -135,7 +135,7 @@ module _ (G : PgnValue → Type 0) (byte_fits : (b : PgnBytes) (x : ℕ) → G (
         text-bytes p (at / 8) at (n / 8) (text_back Bare n text) (length-full text (n / 8) (omega (arith, q, l))) (λ _. z)
         (filled-bytes text (n / 8 - length text) (part_bytes b.start.0 b.len.0 lent bytes)) h.inked
 
-    lz-bytes : (b : PgnBytes) → b.len.0 ≤ 221 → (0 < b.len.0 → at % 8 ≡ 0) → b.start.0 + b.len.0 ≤ length lent → H (Text (bits (16 + 8 * b.len.0)) Counted b)
+    lz-bytes : (b : PgnBytes) → b.len.0 ≤ 221 → (0 < b.len.0 → at % 8 ≡ 0) → b.start.0 + b.len.0 ≤ length lent → H (Ok (Text (bits (16 + 8 * b.len.0)) Counted b))
         → bytes_at p (pick (eqb (p.bits at 8) 0) 0 (at / 8 + 1)) (p.bits at 8) ≡ text_in_lem lent b
     lz-bytes b l a m h =
         let text = text_in_lem lent b in
@@ -146,10 +146,10 @@ module _ (G : PgnValue → Type 0) (byte_fits : (b : PgnBytes) (x : ℕ) → G (
         (stand-left p (at + 8) text (0 ∷ []) (stand-tail p at (at + 8) (length text) (text ++ 0 ∷ []) refl h.inked))
 
     -- from the encoding byte on
-    lau-rest : (b : PgnBytes) (x : ℕ) → H (Text (bits (16 + 8 * b.len.0)) (Encoded x) b) → Stand p (at + 8) (x ∷ text_in_lem lent b)
+    lau-rest : (b : PgnBytes) (x : ℕ) → H (Ok (Text (bits (16 + 8 * b.len.0)) (Encoded x) b)) → Stand p (at + 8) (x ∷ text_in_lem lent b)
     lau-rest b x h = stand-tail p at (at + 8) (length (text_in_lem lent b) + 2) (x ∷ text_in_lem lent b) refl h.inked
 
-    lau-bytes : (b : PgnBytes) (x k : ℕ) → k ≡ b.len.0 → (0 < b.len.0 → at % 8 ≡ 0) → b.start.0 + b.len.0 ≤ length lent → H (Text (bits (16 + 8 * b.len.0)) (Encoded x) b)
+    lau-bytes : (b : PgnBytes) (x k : ℕ) → k ≡ b.len.0 → (0 < b.len.0 → at % 8 ≡ 0) → b.start.0 + b.len.0 ≤ length lent → H (Ok (Text (bits (16 + 8 * b.len.0)) (Encoded x) b))
         → bytes_at p (pick (eqb k 0) 0 (at / 8 + 2)) k ≡ text_in_lem lent b
     lau-bytes b x k c a m h =
         let text = text_in_lem lent b in
@@ -159,11 +159,11 @@ module _ (G : PgnValue → Type 0) (byte_fits : (b : PgnBytes) (x : ℕ) → G (
         (part_bytes b.start.0 b.len.0 lent bytes)
         (stand-tail p (at + 8) (at + 16) x text z (lau-rest b x h))
 
-    lau-encoding : (b : PgnBytes) (x : ℕ) → x < 256 → H (Text (bits (16 + 8 * b.len.0)) (Encoded x) b) → encoding_in_lem p at (16 + 8 * b.len.0) ≡ encoding.Byte x
+    lau-encoding : (b : PgnBytes) (x : ℕ) → x < 256 → H (Ok (Text (bits (16 + 8 * b.len.0)) (Encoded x) b)) → encoding_in_lem p at (16 + 8 * b.len.0) ≡ encoding.Byte x
     lau-encoding b x l h = rw (le-ltb (16 + 8 * b.len.0) 16 (omega arith)) (ap encoding.Byte (stand-head p (at + 8) x (text_in_lem lent b) l (lau-rest b x h)))
 
     -- a reading of it
-    is-back : (r : Reading) {sh : Shape} {w : Weighed} → M sh w → H w → Kept w → r.raw ≡ raw_in sh p at (size_of w).0 → r.value ≡ value_in sh f p at (size_of w).0 → Back p lent r w
+    is-back : (r : Reading) {sh : Shape} {w : Result Weighed EncodeRefusal} → M sh w → H w → Kept w → r.raw ≡ raw_in sh p at (size_of w).0 → r.value ≡ value_in sh f p at (size_of w).0 → Back p lent r w
     is-back r (a-number v {r = n} g q l m) h k x y = x ∙ ap Some (raw-in v n g q m h)
     is-back r (a-gap l m) h k x y = tt
     is-back r (a-fixed {b = b} a l m) h k x y =
@@ -182,7 +182,7 @@ module _ (G : PgnValue → Type 0) (byte_fits : (b : PgnBytes) (x : ℕ) → G (
     (t : Table) (raw-fits : (i : ℕ) → i < t.count → (v : PgnValue) (r : ℕ) → G v → raw_of_lem (t.field i) v ≡ rawed.Raw r → (t.field i).width ≤ 64 → r < 2 ^ (t.field i).width)
     (p : Payload) (small : p.size ≤ payload_max) (lent : List ℕ) (bytes : AllBytes lent) (size : ℕ) where
   -- what came of an offer at field i, and is held
-  module _ (i : ℕ) (l : i < t.count) (e : Element) (at : ℕ) (o : Offer) (known : Offers G o) (w : Weighed)
+  module _ (i : ℕ) (l : i < t.count) (e : Element) (at : ℕ) (o : Offer) (known : Offers G o) (w : Result Weighed EncodeRefusal)
       (says : w ≡ content_of_lem o (t.field i) i (length lent) size at) (held : Holds p lent (mark_at i e at w)) where
     meant : Meant G (t.field i) (length lent) at (shape_of (t.field i)) w
     meant = subst (Meant G (t.field i) (length lent) at (shape_of (t.field i))) (sym says) (content-meant G (t.field i) (length lent) at i size o known)
@@ -200,5 +200,5 @@ module _ (G : PgnValue → Type 0) (byte_fits : (b : PgnBytes) (x : ℕ) → G (
     back k = is-back G byte_fits p small lent bytes (t.field i) (raw-fits i l) e i at (reading_of t p (span_of (mark_at i e at w))) meant held k refl refl
 
   pub raw-back : (i : ℕ) → i < t.count → (e : Element) (at : ℕ) (o : Offer) → Offers G o → (n : BitPos) (r : ℕ)
-      → Number n r ≡ content_of_lem o (t.field i) i (length lent) size at → Holds p lent (mark_at i e at (Number n r)) → p.bits at n.0 ≡ r
-  raw-back i l e at o known n r says held = raw-is G byte_fits p small lent bytes (t.field i) (raw-fits i l) e i at (meant i l e at o known (Number n r) says held) held
+      → Ok (Number n r) ≡ content_of_lem o (t.field i) i (length lent) size at → Holds p lent (mark_at i e at (Ok (Number n r))) → p.bits at n.0 ≡ r
+  raw-back i l e at o known n r says held = raw-is G byte_fits p small lent bytes (t.field i) (raw-fits i l) e i at (meant i l e at o known (Ok (Number n r)) says held) held

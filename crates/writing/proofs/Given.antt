@@ -1,6 +1,6 @@
 -- "No refusal is given otherwise", of a whole encode: its number is 2, 3, 5, 7, 8, 10, 11, 12 or 13. So 1 and 6, which a bit call has, are given by none.
 -- Assumes nothing.
-use Rattle.std.specs.Prelude.{Err, Ok}
+use Rattle.std.specs.Prelude.{Err, Ok, Result}
 use mathlib.Core.Path.{◌≡◌, refl, ap, ◌∙◌, subst}
 use mathlib.Core.Bool.{Bool, true, false}
 use mathlib.Core.List.{List}
@@ -21,7 +21,6 @@ use Rattle.reading.proofs.Lasts.{in_table}
 use Rattle.weighing.specs.declared.EncodeRefusal.{EncodeRefusal}
 use Rattle.weighing.specs.declared.EncodeRefusal.TheVariants.{WrongLength, TableRefused, ValueCount}
 use Rattle.weighing.specs.declared.Weighed.{Weighed}
-use Rattle.weighing.specs.declared.Weighed.TheVariants as weighed
 use Rattle.weighing.specs.Refusals.{number_of, given_by_encode}
 use Rattle.weighing.specs.Weigh.{gap_of}
 use Rattle.weighing.proofs.Given.{Given, weighed-given, gap-given}
@@ -35,11 +34,9 @@ use Rattle.writing.specs.Encode.{Mark, offered_of, content_of_lem, settled, one_
 abbrev Gives : EncodeRefusal → Type 0
 Gives f = given_by_encode (number_of f) ≡ true
 
-settled-gives : (t : Table) (i : ℕ) (e : Element) (s : Pen) (w : Weighed) (f : EncodeRefusal) → Given w → settled t i e s w ≡ miss f → Gives f
-settled-gives t i e s (weighed.Number n r) f g h = let k : ◌≡◌ {A = ℕ} 0 1 = cc in absurd (omega arith)
-settled-gives t i e s (weighed.Gap n) f g h = let k : ◌≡◌ {A = ℕ} 0 1 = cc in absurd (omega arith)
-settled-gives t i e s (weighed.Text n lead b) f g h = let k : ◌≡◌ {A = ℕ} 0 1 = cc in absurd (omega arith)
-settled-gives t i e s (weighed.Refused x) f g h = let k : x ≡ f = cc in subst Gives k g
+settled-gives : (t : Table) (i : ℕ) (e : Element) (s : Pen) (w : Result Weighed EncodeRefusal) (f : EncodeRefusal) → Given w → settled t i e s w ≡ miss f → Gives f
+settled-gives t i e s (Ok w) f g h = let k : ◌≡◌ {A = ℕ} 0 1 = cc in absurd (omega arith)
+settled-gives t i e s (Err x) f g h = let k : x ≡ f = cc in subst Gives k g
 
 -- ## The walk
 

@@ -1,4 +1,5 @@
 -- Reading finds as many elements of a set as were written. Assumes nothing.
+use Rattle.std.specs.Prelude.{Result, Ok, Err}
 use mathlib.Core.Path.{◌≡◌, refl, sym, ap, ◌∙◌, subst}
 use mathlib.Core.Bool.{Bool, true, false, and-eq-true_iff}
 use mathlib.Core.List.{List}
@@ -8,7 +9,6 @@ use native.Mathlib.Omega.{arith}
 use lib.Dec.{eqb}
 use lib.ListN.{get_or}
 use borrow.Author.Tests.{eqb-true, ne_eqb}
-use Rattle.std.specs.Prelude.{Ok}
 use Rattle.bits.specs.Bits.{pick}
 use Rattle.descriptor.specs.declared.FieldDescriptor.{FieldDescriptor}
 use Rattle.descriptor.specs.declared.FieldKind.{FieldKind}
@@ -32,7 +32,7 @@ use Rattle.fields.specs.Payload.{Payload, bits_left}
 use Rattle.reading.specs.Groups.{fitting, element_count_lem}
 use Rattle.weighing.specs.declared.EncodeRefusal.{EncodeRefusal}
 use Rattle.weighing.specs.declared.Weighed.{Weighed}
-use Rattle.weighing.specs.declared.Weighed.TheVariants.{Number, Gap, Text, Refused}
+use Rattle.weighing.specs.declared.Weighed.TheVariants.{Number, Gap, Text}
 use Rattle.offers.specs.declared.Offer.{Offer}
 use Rattle.offers.specs.declared.Offer.TheVariants.{Nothing, NoKind, Value}
 use Rattle.writing.specs.declared.Pen.{Pen}
@@ -87,7 +87,7 @@ any Nothing = tt
 any NoKind = tt
 any (Value v) = tt
 
-meant-wide : {f : FieldDescriptor} {lent at : ℕ} {sh : Shape} {x : Weighed} → Declares sh f.width → Meant Any f lent at sh x → Kept x → f.width ≤ (size_of x).0
+meant-wide : {f : FieldDescriptor} {lent at : ℕ} {sh : Shape} {x : Result Weighed EncodeRefusal} → Declares sh f.width → Meant Any f lent at sh x → Kept x → f.width ≤ (size_of x).0
 meant-wide d (a-number v g q l m) k = omega arith
 meant-wide d (a-gap l m) k = omega arith
 meant-wide d (a-fixed a l m) k = omega (arith, d)
@@ -101,7 +101,7 @@ meant-wide d refused k = absurd k
 
 -- field i, of element e, written as m by a pen that stood at s and then stands at z
 pub record Wrote (t : Table) (offered : ℕ → Offer) (lent size i : ℕ) (e : Element) (s : Pen) (m : Mark) (z : Pen) : Type 0 where
-  pub content : Weighed
+  pub content : Result Weighed EncodeRefusal
   pub weighed : content_of_lem (offered s.used) (t.field i) i lent size s.at.0 ≡ content
   pub kept : Kept content
   pub mark : m ≡ mark_at i e s.at.0 content
@@ -111,18 +111,16 @@ module _ (t : Table) (offered : ℕ → Offer) (lent size : ℕ) where
   pub wrote : (i : ℕ) (e : Element) (last : Bool) (s : Pen) (m : Mark) (z : Pen) → one_of t offered lent size i e last s ≡ hit m z → Wrote t offered lent size i e s m z
   wrote i e last s m z h = go (content_of_lem (offered s.used) (t.field i) i lent size s.at.0) refl h
     where
-      go : (x : Weighed) → content_of_lem (offered s.used) (t.field i) i lent size s.at.0 ≡ x → settled t i e s x ≡ hit m z → Wrote t offered lent size i e s m z
-      go (Number n r) q k = record { content = Number n r; weighed = q; kept = tt; mark = cc; pen = cc }
-      go (Gap n) q k = record { content = Gap n; weighed = q; kept = tt; mark = cc; pen = cc }
-      go (Text n lead b) q k = record { content = Text n lead b; weighed = q; kept = tt; mark = cc; pen = cc }
-      go (Refused f) q k = let y : ◌≡◌ {A = ℕ} 0 1 = cc in absurd (omega arith)
+      go : (x : Result Weighed EncodeRefusal) → content_of_lem (offered s.used) (t.field i) i lent size s.at.0 ≡ x → settled t i e s x ≡ hit m z → Wrote t offered lent size i e s m z
+      go (Ok x) q k = record { content = Ok x; weighed = q; kept = tt; mark = cc; pen = cc }
+      go (Err f) q k = let y : ◌≡◌ {A = ℕ} 0 1 = cc in absurd (omega arith)
 
   -- the pen then stands after the field's bits
-  pen-ahead : (i : ℕ) (e : Element) (s : Pen) (x : Weighed) → Kept x → (pen_after_lem t i e s x).at.0 ≡ s.at.0 + (size_of x).0
-  pen-ahead i e s (Number n r) h = refl
-  pen-ahead i e s (Gap n) h = refl
-  pen-ahead i e s (Text n lead b) h = refl
-  pen-ahead i e s (Refused f) h = absurd h
+  pen-ahead : (i : ℕ) (e : Element) (s : Pen) (x : Result Weighed EncodeRefusal) → Kept x → (pen_after_lem t i e s x).at.0 ≡ s.at.0 + (size_of x).0
+  pen-ahead i e s (Ok (Number n r)) h = refl
+  pen-ahead i e s (Ok (Gap n)) h = refl
+  pen-ahead i e s (Ok (Text n lead b)) h = refl
+  pen-ahead i e s (Err f) h = absurd h
 
   pub ahead : {i : ℕ} {e : Element} {s : Pen} {m : Mark} {z : Pen} → (h : Wrote t offered lent size i e s m z) → z.at.0 ≡ s.at.0 + (size_of h.content).0
   ahead {i = i} {e = e} {s = s} h = ap (λ (y : Pen). y.at.0) h.pen ∙ pen-ahead i e s h.content h.kept

@@ -1,4 +1,5 @@
 -- The image of an encode, its first bytes used and the table's filling, holds each field that was written. Assumes nothing.
+use Rattle.std.specs.Prelude.{Result, Ok, Err}
 use mathlib.Core.Path.{◌≡◌, refl, sym, ap, ◌∙◌, subst}
 use mathlib.Core.List.{List, [], ◌∷◌, ◌++◌}
 use Prim.Native.Nat.{ℕ, ◌+◌, ◌*◌, ◌/◌, ◌%◌, ◌≤◌, ◌<◌}
@@ -6,7 +7,6 @@ use native.Mathlib.Omega.{arith}
 use lib.ListN.{length, take, replicate, length-append, length-take, length-replicate, get_or-append}
 use lib.Seq.{get_or-take}
 use borrow.Author.Tests.{le-ltb}
-use Rattle.std.specs.Prelude.{Ok}
 use Rattle.bits.specs.Bits.{bit, bit_at, bits_at}
 use Rattle.bits.proofs.Laws.{run-local}
 use Rattle.tables.specs.Table.{Table}
@@ -23,11 +23,12 @@ use Rattle.reading.proofs.Received.{working-fills}
 use Rattle.reading.proofs.Working.{working-le}
 use Rattle.weighing.specs.declared.EncodeRefusal.{EncodeRefusal}
 use Rattle.weighing.specs.declared.Weighed.{Weighed}
-use Rattle.weighing.specs.declared.Weighed.TheVariants.{Number, Gap, Text, Refused}
+use Rattle.weighing.specs.declared.Weighed.TheVariants.{Number, Gap, Text}
 use Rattle.offers.specs.declared.Offer.{Offer}
 use Rattle.writing.specs.declared.Pen.{Pen}
 use Rattle.writing.specs.Ink.{Puttable}
 use Rattle.writing.specs.Encode.{Mark, mark_at, pen_after_lem, content_of_lem, settled, one_of, count_of, too_many, beginning, writes_of, bytes_used_lem, marks_of, image_of}
+use Rattle.writing.specs.Strokes.{size_of}
 use Rattle.writing.specs.Ones.{past, end_at}
 use Rattle.writing.proofs.Contents.{content-puts}
 use Rattle.writing.proofs.Holding.{Inks, Holds}
@@ -39,11 +40,14 @@ module _ (t : Table) (offered : ℕ → Offer) (lent : List ℕ) (size : ℕ) wh
   abbrev C : Pen → List Mark → Pen → Type 0
   C s ms z = Chained size (length lent) s.at.0 ms z.at.0
 
-  settled-one : (i : ℕ) (e : Element) (s : Pen) (w : Weighed) (m : Mark) (z : Pen) → Puttable size s.at.0 w (length lent) → settled t i e s w ≡ hit m z → C s (m ∷ []) z
-  settled-one i e s (Number n r) m z l h = let p : mark_at i e s.at.0 (Number n r) ≡ m = cc in let q : pen_after_lem t i e s (Number n r) ≡ z = cc in rw (← p, ← q) (refl, (l, refl))
-  settled-one i e s (Gap n) m z l h = let p : mark_at i e s.at.0 (Gap n) ≡ m = cc in let q : pen_after_lem t i e s (Gap n) ≡ z = cc in rw (← p, ← q) (refl, (l, refl))
-  settled-one i e s (Text n lead b) m z l h = let p : mark_at i e s.at.0 (Text n lead b) ≡ m = cc in let q : pen_after_lem t i e s (Text n lead b) ≡ z = cc in rw (← p, ← q) (refl, (l, refl))
-  settled-one i e s (Refused f) m z l h = let k : ◌≡◌ {A = ℕ} 0 1 = cc in absurd (omega arith)
+  settled-one : (i : ℕ) (e : Element) (s : Pen) (w : Result Weighed EncodeRefusal) (m : Mark) (z : Pen) → Puttable size s.at.0 w (length lent) → settled t i e s w ≡ hit m z → C s (m ∷ []) z
+  settled-one i e s (Ok w) m z l h = let p : mark_at i e s.at.0 (Ok w) ≡ m = cc in let q : pen_after_lem t i e s (Ok w) ≡ z = cc in rw (← p, ← q) (refl, (l, ahead w))
+    where
+      ahead : (w : Weighed) → s.at.0 + (size_of (Ok w)).0 ≡ (pen_after_lem t i e s (Ok w)).at.0
+      ahead (Number n r) = refl
+      ahead (Gap n) = refl
+      ahead (Text n lead b) = refl
+  settled-one i e s (Err f) m z l h = let k : ◌≡◌ {A = ℕ} 0 1 = cc in absurd (omega arith)
 
   abbrev Follow : Run Mark Pen EncodeRefusal → Type 0
   Follow w = Lawful C (λ (s : Pen) (f : EncodeRefusal). Unit {0}) beginning w

@@ -29,7 +29,7 @@ use Rattle.weighing.specs.declared.Weighed.TheVariants as weighed
 use Rattle.writing.specs.declared.Pen.{Pen}
 use Rattle.writing.specs.declared.Draft.{Draft}
 use Rattle.writing.specs.declared.Stroke.{Stroke}
-use Rattle.writing.specs.declared.Stroke.TheVariants.{Wrote, Skipped, Moved, Ended, Refused}
+use Rattle.writing.specs.declared.Stroke.TheVariants.{Wrote, Skipped, Moved, Ended}
 use Rattle.writing.specs.declared.Stroked.{Stroked}
 use Rattle.reading.specs.declared.Span.{Span}
 use Rattle.writing.specs.Ink.{inked}
@@ -57,29 +57,27 @@ painted-more b (x ∷ ms) m lent = painted-more (inked b x.start x.content lent)
 -- ## A field met is not refused
 
 -- whether the walk goes on
-abbrev pub goes_on_lem : Stroke → Bool
-goes_on_lem (Wrote v) = true
-goes_on_lem (Skipped v) = true
-goes_on_lem Moved = true
-goes_on_lem Ended = false
-goes_on_lem (Refused f) = false
+abbrev pub goes_on_lem : Result Stroke EncodeRefusal → Bool
+goes_on_lem (Ok (Wrote v)) = true
+goes_on_lem (Ok (Skipped v)) = true
+goes_on_lem (Ok Moved) = true
+goes_on_lem (Ok Ended) = false
+goes_on_lem (Err f) = false
 
-kept_on : (w : Weighed) (v : Span) → Kept w → goes_on_lem (stroke_by w v) ≡ true
-kept_on (weighed.Number n r) v k = refl
-kept_on (weighed.Gap n) v k = refl
-kept_on (weighed.Text n lead b) v k = refl
-kept_on (weighed.Refused e) v k = absurd k
+kept_on : (w : Result Weighed EncodeRefusal) (v : Span) → Kept w → goes_on_lem (stroke_by w v) ≡ true
+kept_on (Ok (weighed.Number n r)) v k = refl
+kept_on (Ok (weighed.Gap n)) v k = refl
+kept_on (Ok (weighed.Text n lead b)) v k = refl
+kept_on (Err e) v k = absurd k
 
 hit-mark : (v w : Mark) (z y : Pen) → ◌≡◌ {A = One Mark Pen EncodeRefusal} (hit w y) (hit v z) → w ≡ v
 hit-mark v w z y h = cc
 
-settled-kept : (t : Table) (i : ℕ) (e : Element) (s : Pen) (v : Mark) (z : Pen) (w : Weighed) → settled t i e s w ≡ hit v z → Kept v.content
-settled-kept t i e s v z (weighed.Number n r) h = subst (λ (m : Mark). Kept m.content) (hit-mark v _ z _ h) tt
-settled-kept t i e s v z (weighed.Gap n) h = subst (λ (m : Mark). Kept m.content) (hit-mark v _ z _ h) tt
-settled-kept t i e s v z (weighed.Text n lead b) h = subst (λ (m : Mark). Kept m.content) (hit-mark v _ z _ h) tt
-settled-kept t i e s v z (weighed.Refused f) h = let k : ◌≡◌ {A = ℕ} 0 1 = cc in absurd (omega arith)
+settled-kept : (t : Table) (i : ℕ) (e : Element) (s : Pen) (v : Mark) (z : Pen) (w : Result Weighed EncodeRefusal) → settled t i e s w ≡ hit v z → Kept v.content
+settled-kept t i e s v z (Ok w) h = subst (λ (m : Mark). Kept m.content) (hit-mark v _ z _ h) tt
+settled-kept t i e s v z (Err f) h = let k : ◌≡◌ {A = ℕ} 0 1 = cc in absurd (omega arith)
 
-same-refusal : (e f : EncodeRefusal) → ◌≡◌ {A = Stroke} (Refused e) (Refused f) → e ≡ f
+same-refusal : (e f : EncodeRefusal) → ◌≡◌ {A = Result Stroke EncodeRefusal} (Err e) (Err f) → e ≡ f
 same-refusal e f h = cc
 
 -- ## What a loop over turns knows
@@ -126,8 +124,8 @@ module _ (t : Table) (vs : Values) (lent : List ℕ) (size : ℕ) where
   -- what one turn leaves
   pub record Turned (d : Draft) (x : Stroked) (after : List ℕ) : Type 0 where
     pub on : goes_on_lem x.stroke ≡ true → Going x.draft after × (heft x.draft < heft d)
-    pub ends : x.stroke ≡ Ended → (whole ≡ Ok (bytes (bytes_used_lem x.draft.pen))) × (after ≡ all)
-    pub stops : (f : EncodeRefusal) → x.stroke ≡ Refused f → (whole ≡ Err f) × (after ≡ all)
+    pub ends : x.stroke ≡ Ok Ended → (whole ≡ Ok (bytes (bytes_used_lem x.draft.pen))) × (after ≡ all)
+    pub stops : (f : EncodeRefusal) → x.stroke ≡ Err f → (whole ≡ Err f) × (after ≡ all)
 
   turned_on : (d : Draft) (x : Stroked) (after : List ℕ) → goes_on_lem x.stroke ≡ true → Going x.draft after × (heft x.draft < heft d) → Turned d x after
   turned_on d x after o h = record {

@@ -1,5 +1,6 @@
 -- What it says of a field that something was weighed for it: a number that has room, bits that are skipped, or bytes that lie in the lent
 -- text. Assumes nothing.
+use Rattle.std.specs.Prelude.{Result, Ok, Err}
 use mathlib.Core.Path.{◌≡◌, refl, subst}
 use mathlib.Core.Bool.{Bool, true, false, not, ◌||◌}
 use Prim.Native.Nat.{ℕ, ◌+◌, ◌-◌, ◌*◌, ◌/◌, ◌%◌, ◌≤◌, ◌<◌}
@@ -32,7 +33,7 @@ use Rattle.weighing.specs.declared.EncodeRefusal.TheVariants.{BitWriteError, Tex
 use Rattle.weighing.specs.declared.Lead.{Lead}
 use Rattle.weighing.specs.declared.Lead.TheVariants.{Bare, Counted, Encoded, Empty}
 use Rattle.weighing.specs.declared.Weighed.{Weighed}
-use Rattle.weighing.specs.declared.Weighed.TheVariants.{Number, Gap, Text, Refused}
+use Rattle.weighing.specs.declared.Weighed.TheVariants.{Number, Gap, Text}
 use Rattle.weighing.specs.Weigh.{at_field_lem, if_room_lem, if_aligned_lem, number_by, gap_of, text_by, unencoded, fixed_of, whole_of, lz_of, lau_by, by_bytes, weighed_by}
 use Rattle.tables.specs.Check.{payload_max}
 use Rattle.writing.specs.Encode.{offered_of, content_of_lem}
@@ -50,17 +51,17 @@ module _ (G : PgnValue → Type 0) (f : FieldDescriptor) (lent at : ℕ) where
   abbrev pub Aligned : PgnBytes → Type 0
   Aligned b = 0 < b.len.0 → at % 8 ≡ 0
 
-  pub data Meant : Shape → Weighed → Type 0 where
-    a-number : {strict : Bool} (v : PgnValue) {r : ℕ} → G v → raw_of_lem f v ≡ raw.Raw r → 0 < f.width → f.width ≤ 64 → Meant (shape.Number strict) (Number (bits f.width) r)
-    a-gap : 0 < f.width → f.width ≤ 64 → Meant shape.Gap (Gap (bits f.width))
-    a-fixed : {b : PgnBytes} → at % 8 ≡ 0 → b.len.0 ≤ f.width / 8 → Lies b → Meant shape.Fixed (Text (bits (8 * (f.width / 8))) Bare b)
-    a-whole : {b : PgnBytes} → at % 8 ≡ 0 → 8 * b.len.0 ≡ f.width → Lies b → Meant shape.Whole (Text (bits f.width) Bare b)
-    a-lz : {b : PgnBytes} → b.len.0 ≤ 221 → Aligned b → Lies b → Meant shape.Lz (Text (bits (16 + 8 * b.len.0)) Counted b)
-    a-lau : {b : PgnBytes} {x : ℕ} → G (Bytes b) → b.encoding ≡ encoding.Byte x → b.len.0 ≤ 221 → Aligned b → Lies b → Meant shape.Lau (Text (bits (16 + 8 * b.len.0)) (Encoded x) b)
-    an-absent : {b : PgnBytes} → b.len.0 ≡ 0 → Lies b → Meant shape.Lau (Text (bits 8) Empty b)
-    refused : {sh : Shape} {e : EncodeRefusal} → Meant sh (Refused e)
+  pub data Meant : Shape → Result Weighed EncodeRefusal → Type 0 where
+    a-number : {strict : Bool} (v : PgnValue) {r : ℕ} → G v → raw_of_lem f v ≡ raw.Raw r → 0 < f.width → f.width ≤ 64 → Meant (shape.Number strict) (Ok (Number (bits f.width) r))
+    a-gap : 0 < f.width → f.width ≤ 64 → Meant shape.Gap (Ok (Gap (bits f.width)))
+    a-fixed : {b : PgnBytes} → at % 8 ≡ 0 → b.len.0 ≤ f.width / 8 → Lies b → Meant shape.Fixed (Ok (Text (bits (8 * (f.width / 8))) Bare b))
+    a-whole : {b : PgnBytes} → at % 8 ≡ 0 → 8 * b.len.0 ≡ f.width → Lies b → Meant shape.Whole (Ok (Text (bits f.width) Bare b))
+    a-lz : {b : PgnBytes} → b.len.0 ≤ 221 → Aligned b → Lies b → Meant shape.Lz (Ok (Text (bits (16 + 8 * b.len.0)) Counted b))
+    a-lau : {b : PgnBytes} {x : ℕ} → G (Bytes b) → b.encoding ≡ encoding.Byte x → b.len.0 ≤ 221 → Aligned b → Lies b → Meant shape.Lau (Ok (Text (bits (16 + 8 * b.len.0)) (Encoded x) b))
+    an-absent : {b : PgnBytes} → b.len.0 ≡ 0 → Lies b → Meant shape.Lau (Ok (Text (bits 8) Empty b))
+    refused : {sh : Shape} {e : EncodeRefusal} → Meant sh (Err e)
 
-  picked : (sh : Shape) (c : Bool) (x y : Weighed) → (c ≡ true → Meant sh x) → (c ≡ false → Meant sh y) → Meant sh (pick c x y)
+  picked : (sh : Shape) (c : Bool) (x y : Result Weighed EncodeRefusal) → (c ≡ true → Meant sh x) → (c ≡ false → Meant sh y) → Meant sh (pick c x y)
   picked sh true x y h k = h refl
   picked sh false x y h k = k refl
 
@@ -69,34 +70,34 @@ module _ (G : PgnValue → Type 0) (f : FieldDescriptor) (lent at : ℕ) where
   or-false false b h = (refl, h)
 
   module _ (i size : ℕ) where
-    at_room : (sh : Shape) (r : Room) (w : Weighed) → (r ≡ room.Fits → Meant sh w) → Meant sh (at_field_lem r i w)
+    at_room : (sh : Shape) (r : Room) (w : Result Weighed EncodeRefusal) → (r ≡ room.Fits → Meant sh w) → Meant sh (at_field_lem r i w)
     at_room sh room.Fits w h = h refl
     at_room sh (room.Refused e) w h = refused
 
     number-meant : (strict : Bool) (v : PgnValue) → G v → (x : RawOf) → raw_of_lem f v ≡ x → Meant (shape.Number strict) (number_by x i size at f.width)
     number-meant strict v g (raw.Raw r) q =
-        at_room (shape.Number strict) (room_of size at f.width 64) (Number (bits f.width) r) (λ h. let k = fitting size at f.width 64 h in a-number v g q k.some k.narrow)
+        at_room (shape.Number strict) (room_of size at f.width 64) (Ok (Number (bits f.width) r)) (λ h. let k = fitting size at f.width 64 h in a-number v g q k.some k.narrow)
     number-meant strict v g (raw.BadWidth n) q = refused
     number-meant strict v g raw.OutOfRange q = refused
     number-meant strict v g raw.WrongKind q = refused
 
     gap-meant : Meant shape.Gap (gap_of f i size at)
-    gap-meant = at_room shape.Gap (room_of size at f.width 64) (Gap (bits f.width)) (λ h. let k = fitting size at f.width 64 h in a-gap k.some k.narrow)
+    gap-meant = at_room shape.Gap (room_of size at f.width 64) (Ok (Gap (bits f.width))) (λ h. let k = fitting size at f.width 64 h in a-gap k.some k.narrow)
 
     text-meant : (sh : Shape) (b : PgnBytes) (over aligned : Bool) (put n : ℕ) (lead : Lead)
-        → (over ≡ false → (aligned ≡ true → at % 8 ≡ 0) → Lies b → Meant sh (Text (bits n) lead b)) → Meant sh (text_by b i lent size at over aligned put n lead)
+        → (over ≡ false → (aligned ≡ true → at % 8 ≡ 0) → Lies b → Meant sh (Ok (Text (bits n) lead b))) → Meant sh (text_by b i lent size at over aligned put n lead)
     text-meant sh b over aligned put n lead h =
-        let told : Weighed = if_room_lem i size at n (Text (bits n) lead b) in
+        let told : Result Weighed EncodeRefusal = if_room_lem i size at n (Ok (Text (bits n) lead b)) in
         let fits : (aligned ≡ true → at % 8 ≡ 0) → over ≡ false → Lies b → Meant sh told =
-        λ a o l. picked sh (ltb (size * 8) (at + n)) (Refused (BitWriteError i (OutOfBits (bits n) (bits (size * 8 - at))))) (Text (bits n) lead b) (λ _. refused) (λ _. h o a l) in
-        picked sh (over || ltb lent (b.start.0 + b.len.0)) (Refused (TextTooLong i)) (pick aligned (if_aligned_lem i at put told) told) (λ _. refused)
+        λ a o l. picked sh (ltb (size * 8) (at + n)) (Err (BitWriteError i (OutOfBits (bits n) (bits (size * 8 - at))))) (Ok (Text (bits n) lead b)) (λ _. refused) (λ _. h o a l) in
+        picked sh (over || ltb lent (b.start.0 + b.len.0)) (Err (TextTooLong i)) (pick aligned (if_aligned_lem i at put told) told) (λ _. refused)
         (λ q. let o = or-false over (ltb lent (b.start.0 + b.len.0)) q in
         let l : Lies b = ltb-false lent (b.start.0 + b.len.0) o.1 in
         picked sh aligned (if_aligned_lem i at put told) told
-        (λ _. picked sh (eqb (at % 8) 0) told (Refused (BitWriteError i (NonAlignedBit (bits (saturated (at + put)))))) (λ z. fits (λ _. eqb-true (at % 8) 0 z) o.0 l) (λ _. refused))
+        (λ _. picked sh (eqb (at % 8) 0) told (Err (BitWriteError i (NonAlignedBit (bits (saturated (at + put)))))) (λ z. fits (λ _. eqb-true (at % 8) 0 z) o.0 l) (λ _. refused))
         (λ z. fits (λ y. let k : ◌≡◌ {A = ℕ} 0 1 = cc in absurd (omega arith)) o.0 l))
 
-    unencoded-meant : (sh : Shape) (e : Encoding) (w : Weighed) → Meant sh w → Meant sh (unencoded e i w)
+    unencoded-meant : (sh : Shape) (e : Encoding) (w : Result Weighed EncodeRefusal) → Meant sh w → Meant sh (unencoded e i w)
     unencoded-meant sh encoding.Absent w h = h
     unencoded-meant sh (encoding.Byte x) w h = refused
 
@@ -126,7 +127,7 @@ module _ (G : PgnValue → Type 0) (f : FieldDescriptor) (lent at : ℕ) where
         text-meant shape.Lau b (ltb 221 b.len.0) (not (eqb b.len.0 0)) 16 (16 + 8 * b.len.0) (Encoded x)
         (λ o a l. a-lau g q (ltb-false 221 b.len.0 o) (tested b a) l)
 
-    bytes-meant : (sh : Shape) (v : PgnValue) (says : PgnBytes → Weighed) → G v → ((b : PgnBytes) → G (Bytes b) → Meant sh (says b)) → Meant sh (by_bytes v i says)
+    bytes-meant : (sh : Shape) (v : PgnValue) (says : PgnBytes → Result Weighed EncodeRefusal) → G v → ((b : PgnBytes) → G (Bytes b) → Meant sh (says b)) → Meant sh (by_bytes v i says)
     bytes-meant sh (Bytes b) says g h = h b g
     bytes-meant sh (U64 n) says g h = refused
     bytes-meant sh (U32 n) says g h = refused
@@ -150,9 +151,9 @@ module _ (G : PgnValue → Type 0) (f : FieldDescriptor) (lent at : ℕ) where
     offered-meant : (o : Offer) → Offers G o → Meant (shape_of f) (offered_of o f i lent size at)
     offered-meant Nothing k = refused
     offered-meant NoKind k = refused
-    offered-meant (Value v) k = picked (shape_of f) (ltb payload_max size) (Refused (WrongLength (bytes size))) _ (λ _. refused) (λ _. by_shape (shape_of f) v k)
+    offered-meant (Value v) k = picked (shape_of f) (ltb payload_max size) (Err (WrongLength (bytes size))) _ (λ _. refused) (λ _. by_shape (shape_of f) v k)
 
-    gapped : (sh : Shape) (w : Weighed) → Meant sh w → Meant sh (pick (is_gap_lem sh) (gap_of f i size at) w)
+    gapped : (sh : Shape) (w : Result Weighed EncodeRefusal) → Meant sh w → Meant sh (pick (is_gap_lem sh) (gap_of f i size at) w)
     gapped (shape.Number strict) w h = h
     gapped shape.Gap w h = gap-meant
     gapped shape.Fixed w h = h

@@ -24,7 +24,7 @@ use Rattle.walking.proofs.Visits.{All}
 use Rattle.offers.specs.Values.{Values}
 use Rattle.weighing.specs.declared.EncodeRefusal.TheVariants.{WrongLength}
 use Rattle.weighing.specs.declared.Weighed.{Weighed}
-use Rattle.weighing.specs.declared.Weighed.TheVariants.{Number, Gap, Text, Refused}
+use Rattle.weighing.specs.declared.Weighed.TheVariants.{Number, Gap, Text}
 use Rattle.writing.specs.declared.Pen.{Pen}
 use Rattle.writing.specs.Ink.{text_in_lem, bytes_by, poured, inked, Puttable}
 use Rattle.writing.specs.Encode.{Mark, writes_of, by_check, begun_of, encoded_in, encoded_of, painted, image_of, buffer_in, buffer_after}
@@ -68,14 +68,14 @@ poured-after s at (x ∷ xs) i l h =
     let e = length-written s at 8 x in
     poured-after (written s at 8 x) (at + 8) xs i (omega arith) (omega arith) ∙ bit-written s at 8 x i h ∙ put-after s at 8 x i (omega arith)
 
-inked-after : (lent : List ℕ) (size : ℕ) (s : List ℕ) (at : ℕ) (w : Weighed) → Puttable size at w (length lent) → (i : ℕ) → at + (size_of w).0 ≤ i → i < length s * 8
+inked-after : (lent : List ℕ) (size : ℕ) (s : List ℕ) (at : ℕ) (w : Result Weighed EncodeRefusal) → Puttable size at w (length lent) → (i : ℕ) → at + (size_of w).0 ≤ i → i < length s * 8
     → bit_at (inked s at w lent) i ≡ bit_at s i
-inked-after lent size s at (Number n r) p i l h = bit-written s at n.0 r i h ∙ put-after s at n.0 r i l
-inked-after lent size s at (Gap n) p i l h = refl
-inked-after lent size s at (Text n lead b) p i l h =
+inked-after lent size s at (Ok (Number n r)) p i l h = bit-written s at n.0 r i h ∙ put-after s at n.0 r i l
+inked-after lent size s at (Ok (Gap n)) p i l h = refl
+inked-after lent size s at (Ok (Text n lead b)) p i l h =
     let f = bytes_fit lent n.0 lead b p.1.1.0 p.1.1.1 in
     poured-after s at (bytes_by lead n.0 (text_in_lem lent b)) i (omega (arith, f, l)) h
-inked-after lent size s at (Refused e) p i l h = refl
+inked-after lent size s at (Err e) p i l h = refl
 
 -- ## Bits that no field puts stay
 
@@ -109,12 +109,12 @@ module _ (size : ℕ) (lent : List ℕ) where
   abbrev C : ℕ → List Mark → ℕ → Type 0
   C a ms b = Chained size (length lent) a ms b
 
-  inked-unput : (s : List ℕ) (at : ℕ) (w : Weighed) → Puttable size at w (length lent) → (i : ℕ) → i < length s * 8 → inks w && (leb at i && ltb i (at + (size_of w).0)) ≡ false
+  inked-unput : (s : List ℕ) (at : ℕ) (w : Result Weighed EncodeRefusal) → Puttable size at w (length lent) → (i : ℕ) → i < length s * 8 → inks w && (leb at i && ltb i (at + (size_of w).0)) ≡ false
       → bit_at (inked s at w lent) i ≡ bit_at s i
-  inked-unput s at (Gap n) p i h f = refl
-  inked-unput s at (Refused e) p i h f = refl
-  inked-unput s at (Number n r) p i h f = ⊎_elim (λ (l : i < at). inked-before lent s at (Number n r) i l h) (λ (l : at + n.0 ≤ i). inked-after lent size s at (Number n r) p i l h) (outside at _ i f)
-  inked-unput s at (Text n lead b) p i h f = ⊎_elim (λ (l : i < at). inked-before lent s at (Text n lead b) i l h) (λ (l : at + n.0 ≤ i). inked-after lent size s at (Text n lead b) p i l h) (outside at _ i f)
+  inked-unput s at (Ok (Gap n)) p i h f = refl
+  inked-unput s at (Err e) p i h f = refl
+  inked-unput s at (Ok (Number n r)) p i h f = ⊎_elim (λ (l : i < at). inked-before lent s at (Ok (Number n r)) i l h) (λ (l : at + n.0 ≤ i). inked-after lent size s at (Ok (Number n r)) p i l h) (outside at _ i f)
+  inked-unput s at (Ok (Text n lead b)) p i h f = ⊎_elim (λ (l : i < at). inked-before lent s at (Ok (Text n lead b)) i l h) (λ (l : at + n.0 ≤ i). inked-after lent size s at (Ok (Text n lead b)) p i l h) (outside at _ i f)
 
   painted-unput : (s : List ℕ) (a : ℕ) (ms : List Mark) (b : ℕ) → C a ms b → (i : ℕ) → i < length s * 8 → any_puts ms i ≡ false → bit_at (painted s ms lent) i ≡ bit_at s i
   unfolding painted any_puts
@@ -141,10 +141,10 @@ module _ (size : ℕ) (lent : List ℕ) where
   unput-after a (m ∷ ms) b c i l = let k = chained-le size lent (past m) ms b c.1.1 in or-false _ _ (after m i (omega (arith, k, l))) (unput-after (past m) ms b c.1.1 i l)
 
   -- .. and none of a skipped one's
-  unput-gap : (a : ℕ) (us : List Mark) (m : Mark) (ws : List Mark) (b : ℕ) → C a (us ++ m ∷ ws) b → (n : BitPos) → m.content ≡ Gap n → (i : ℕ) → m.start ≤ i → i < past m
+  unput-gap : (a : ℕ) (us : List Mark) (m : Mark) (ws : List Mark) (b : ℕ) → C a (us ++ m ∷ ws) b → (n : BitPos) → m.content ≡ Ok (Gap n) → (i : ℕ) → m.start ≤ i → i < past m
       → any_puts (us ++ m ∷ ws) i ≡ false
   unfolding any_puts
-  unput-gap a [] m ws b c n e i l h = or-false _ _ (ap (λ (w : Weighed). inks w && (leb m.start i && ltb i (past m))) e) (unput-before (past m) ws b c.1.1 i h)
+  unput-gap a [] m ws b c n e i l h = or-false _ _ (ap (λ (w : Result Weighed EncodeRefusal). inks w && (leb m.start i && ltb i (past m))) e) (unput-before (past m) ws b c.1.1 i h)
   unput-gap a (u ∷ us) m ws b c n e i l h = or-false _ _ (after u i (omega (arith, reach (past u) us m ws b c.1.1, l))) (unput-gap (past u) us m ws b c.1.1 n e i l h)
     where
       reach : (a : ℕ) (us : List Mark) (m : Mark) (ws : List Mark) (b : ℕ) → C a (us ++ m ∷ ws) b → a ≤ m.start
@@ -190,7 +190,7 @@ module _ (t : Table) (vs : Values) (lent buffer : List ℕ) (touched : touches (
   ones-after i l h = ones-unput i h (unput-after size lent 0 wrote (end_at wrote) chain i l)
 
   -- "Skipped fields stay ones"
-  pub ones-skipped : (us : List Mark) (m : Mark) (ws : List Mark) → wrote ≡ us ++ m ∷ ws → (n : BitPos) → m.content ≡ Gap n
+  pub ones-skipped : (us : List Mark) (m : Mark) (ws : List Mark) → wrote ≡ us ++ m ∷ ws → (n : BitPos) → m.content ≡ Ok (Gap n)
       → (i : ℕ) → m.start ≤ i → i < past m → i < length buffer * 8 → bit_at (buffer_after t vs lent buffer) i ≡ 1
   ones-skipped us m ws e n g i l k h =
       let c : Chained size (length lent) 0 (us ++ m ∷ ws) (end_at wrote) = subst (λ (ms : List Mark). Chained size (length lent) 0 ms (end_at wrote)) e chain in

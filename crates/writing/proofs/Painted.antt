@@ -1,9 +1,11 @@
 -- What stands in a buffer once fields were put one after another: each has its bits, and what stood before it stays. Assumes nothing.
+use Rattle.std.specs.Prelude.{Result, Ok, Err}
 use mathlib.Core.Path.{◌≡◌, refl, sym, ap, ◌∙◌, subst}
 use mathlib.Core.List.{List, [], ◌∷◌, ◌++◌}
 use Prim.Native.Nat.{ℕ, zero, suc, ◌+◌, ◌-◌, ◌*◌, ◌/◌, ◌%◌, ◌≤◌, ◌<◌}
 use native.Mathlib.Omega.{arith}
 use lib.ListN.{length, get_or, replicate, length-append, length-replicate}
+use Rattle.weighing.specs.declared.EncodeRefusal.{EncodeRefusal}
 use Rattle.bits.specs.Bits.{bit_at, bits_at, written}
 use Rattle.bits.proofs.Written.{bit-written, put-before, read_back}
 use Rattle.bits.proofs.Laws.{run-local, length-written}
@@ -13,7 +15,7 @@ use Rattle.reading.proofs.Local.{Agree}
 use Rattle.weighing.specs.declared.Lead.{Lead}
 use Rattle.weighing.specs.declared.Lead.TheVariants.{Bare, Counted, Encoded, Empty}
 use Rattle.weighing.specs.declared.Weighed.{Weighed}
-use Rattle.weighing.specs.declared.Weighed.TheVariants.{Number, Gap, Text, Refused}
+use Rattle.weighing.specs.declared.Weighed.TheVariants.{Number, Gap, Text}
 use Rattle.writing.specs.Ink.{text_in_lem, bytes_by, poured, inked, Whole, Puttable}
 use Rattle.writing.specs.Encode.{Mark, painted}
 use Rattle.writing.specs.Strokes.{size_of}
@@ -55,11 +57,11 @@ poured-reads s at (x ∷ xs) h (suc j) l =
 
 -- ## A field
 
-lies-inside : (size at : ℕ) (w : Weighed) (lent : ℕ) → Puttable size at w lent → at ≤ size * 8 → at + (size_of w).0 ≤ size * 8
-lies-inside size at (Number n r) lent h l = h.1.1.1
-lies-inside size at (Gap n) lent h l = h.1
-lies-inside size at (Text n lead b) lent h l = h.1.0
-lies-inside size at (Refused e) lent h l = omega arith
+lies-inside : (size at : ℕ) (w : Result Weighed EncodeRefusal) (lent : ℕ) → Puttable size at w lent → at ≤ size * 8 → at + (size_of w).0 ≤ size * 8
+lies-inside size at (Ok (Number n r)) lent h l = h.1.1.1
+lies-inside size at (Ok (Gap n)) lent h l = h.1
+lies-inside size at (Ok (Text n lead b)) lent h l = h.1.0
+lies-inside size at (Err e) lent h l = omega arith
 
 -- the bytes of a text, with what stands around it, are no more than the field's bits
 whole-fits : (lead : Lead) (n : ℕ) (text : List ℕ) (len : ℕ) → length text ≡ len → Whole n lead len → 8 * length (bytes_by lead n text) ≤ n
@@ -69,40 +71,40 @@ whole-fits (Encoded x) n text len l w = omega (arith, w.same, w.fits)
 whole-fits Empty n text len l w = omega (arith, w.same, w.fits)
 
 module _ (lent : List ℕ) where
-  pub length-inked : (s : List ℕ) (at : ℕ) (w : Weighed) → length (inked s at w lent) ≡ length s
-  length-inked s at (Number n r) = length-written s at n.0 r
-  length-inked s at (Gap n) = refl
-  length-inked s at (Text n lead b) = length-poured s at _
-  length-inked s at (Refused e) = refl
+  pub length-inked : (s : List ℕ) (at : ℕ) (w : Result Weighed EncodeRefusal) → length (inked s at w lent) ≡ length s
+  length-inked s at (Ok (Number n r)) = length-written s at n.0 r
+  length-inked s at (Ok (Gap n)) = refl
+  length-inked s at (Ok (Text n lead b)) = length-poured s at _
+  length-inked s at (Err e) = refl
 
   -- a bit before the field stays
-  pub inked-before : (s : List ℕ) (at : ℕ) (w : Weighed) (i : ℕ) → i < at → i < length s * 8 → bit_at (inked s at w lent) i ≡ bit_at s i
-  inked-before s at (Number n r) i l h = written-before s at n.0 r i l h
-  inked-before s at (Gap n) i l h = refl
-  inked-before s at (Text n lead b) i l h = poured-before s at _ i l h
-  inked-before s at (Refused e) i l h = refl
+  pub inked-before : (s : List ℕ) (at : ℕ) (w : Result Weighed EncodeRefusal) (i : ℕ) → i < at → i < length s * 8 → bit_at (inked s at w lent) i ≡ bit_at s i
+  inked-before s at (Ok (Number n r)) i l h = written-before s at n.0 r i l h
+  inked-before s at (Ok (Gap n)) i l h = refl
+  inked-before s at (Ok (Text n lead b)) i l h = poured-before s at _ i l h
+  inked-before s at (Err e) i l h = refl
 
   pub bytes_fit : (n : ℕ) (lead : Lead) (b : PgnBytes) → b.start.0 + b.len.0 ≤ length lent → Whole n lead b.len.0 → 8 * length (bytes_by lead n (text_in_lem lent b)) ≤ n
   bytes_fit n lead b l w = whole-fits lead n (text_in_lem lent b) b.len.0 (text-long lent b.start.0 b.len.0 l) w
 
   module _ (size at : ℕ) where
     -- the field has its bits,
-    inked-inks : (s : List ℕ) (w : Weighed) → length s ≡ size → Puttable size at w (length lent) → Inks (bits_at (inked s at w lent)) at w lent
-    inked-inks s (Number n r) e h = read_back s at n.0 r (omega (arith, h.1.1.1))
-    inked-inks s (Gap n) e h = tt
-    inked-inks s (Text n lead b) e h =
+    inked-inks : (s : List ℕ) (w : Result Weighed EncodeRefusal) → length s ≡ size → Puttable size at w (length lent) → Inks (bits_at (inked s at w lent)) at w lent
+    inked-inks s (Ok (Number n r)) e h = read_back s at n.0 r (omega (arith, h.1.1.1))
+    inked-inks s (Ok (Gap n)) e h = tt
+    inked-inks s (Ok (Text n lead b)) e h =
         let f = bytes_fit n.0 lead b h.1.1.0 h.1.1.1 in
         poured-reads s at (bytes_by lead n.0 (text_in_lem lent b)) (omega (arith, h.1.0))
-    inked-inks s (Refused e) q h = tt
+    inked-inks s (Err e) q h = tt
 
     -- and so has any other buffer that says the same there
-    pub inks-local : (b b' : ℕ → ℕ → ℕ) (w : Weighed) → Puttable size at w (length lent) → Agree b b' at (at + (size_of w).0) → Inks b at w lent → Inks b' at w lent
-    inks-local b b' (Number n r) h a k = sym (a at n.0 (omega arith) (omega arith)) ∙ k
-    inks-local b b' (Gap n) h a k = tt
-    inks-local b b' (Text n lead x) h a k =
+    pub inks-local : (b b' : ℕ → ℕ → ℕ) (w : Result Weighed EncodeRefusal) → Puttable size at w (length lent) → Agree b b' at (at + (size_of w).0) → Inks b at w lent → Inks b' at w lent
+    inks-local b b' (Ok (Number n r)) h a k = sym (a at n.0 (omega arith) (omega arith)) ∙ k
+    inks-local b b' (Ok (Gap n)) h a k = tt
+    inks-local b b' (Ok (Text n lead x)) h a k =
         let f = bytes_fit n.0 lead x h.1.1.0 h.1.1.1 in
         λ j l. sym (a (at + 8 * j) 8 (omega arith) (omega arith)) ∙ k j l
-    inks-local b b' (Refused e) h a k = tt
+    inks-local b b' (Err e) h a k = tt
 
 -- ## Fields one after another
 

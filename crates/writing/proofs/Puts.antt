@@ -1,4 +1,5 @@
 -- What was weighed has room. Assumes nothing.
+use Rattle.std.specs.Prelude.{Result, Ok, Err}
 use mathlib.Core.Path.{◌≡◌, refl, sym, ap}
 use mathlib.Core.Bool.{Bool, true, false, not, ◌||◌}
 use mathlib.Core.List.{List}
@@ -7,6 +8,7 @@ use native.Mathlib.Omega.{arith}
 use lib.Dec.{eqb, ltb}
 use lib.ListN.{length}
 use borrow.Author.Tests.{ltb-false, eqb-true, not-false}
+use Rattle.weighing.specs.declared.EncodeRefusal.{EncodeRefusal}
 use Rattle.bits.specs.Bits.{pick, written}
 use Rattle.bits.specs.Calls.{bits, saturated, cursor_at, room_of, written_in, written_of}
 use Rattle.bits.specs.declared.BitRefusal.TheVariants.{NonAlignedBit, OutOfBits}
@@ -28,7 +30,7 @@ use Rattle.fields.specs.Shapes.{shape_of}
 use Rattle.weighing.specs.declared.Lead.{Lead}
 use Rattle.weighing.specs.declared.Lead.TheVariants.{Bare, Counted, Encoded, Empty}
 use Rattle.weighing.specs.declared.Weighed.{Weighed}
-use Rattle.weighing.specs.declared.Weighed.TheVariants.{Text, Refused}
+use Rattle.weighing.specs.declared.Weighed.TheVariants.{Text}
 use Rattle.weighing.specs.declared.EncodeRefusal.TheVariants.{BitWriteError, TextTooLong}
 use Rattle.weighing.specs.Weigh.{if_room_lem, if_aligned_lem, at_field_lem, number_by, gap_of, text_by, unencoded, lau_by, by_bytes, weighed_by, weighed_of}
 use Rattle.tables.specs.Check.{payload_max}
@@ -40,14 +42,14 @@ number_in s at n v l p q m =
     ap (λ (r : Room). written_in r s (cursor_at at) n v) (room_fits (length s) at n 64 (record { short = omega (arith, l); some = p; narrow = q; inside = m }))
 
 module _ (size at lent : ℕ) where
-  abbrev P : Weighed → Type 0
+  abbrev P : Result Weighed EncodeRefusal → Type 0
   P w = Puttable size at w lent
 
-  picked : (b : Bool) (x y : Weighed) → (b ≡ true → P x) → (b ≡ false → P y) → P (pick b x y)
+  picked : (b : Bool) (x y : Result Weighed EncodeRefusal) → (b ≡ true → P x) → (b ≡ false → P y) → P (pick b x y)
   picked true x y f g = f refl
   picked false x y f g = g refl
 
-  at_room : (r : Room) (i : ℕ) (w : Weighed) → (r ≡ room.Fits → P w) → P (at_field_lem r i w)
+  at_room : (r : Room) (i : ℕ) (w : Result Weighed EncodeRefusal) → (r ≡ room.Fits → P w) → P (at_field_lem r i w)
   at_room room.Fits i w f = f refl
   at_room (room.Refused e) i w f = refl
 
@@ -65,22 +67,22 @@ module _ (size at lent : ℕ) where
     number-puts raw.OutOfRange i w = refl
     number-puts raw.WrongKind i w = refl
 
-    room-puts : (b : PgnBytes) (i n : ℕ) (lead : Lead) → b.start.0 + b.len.0 ≤ lent → Whole n lead b.len.0 → P (if_room_lem i size at n (Text (bits n) lead b))
+    room-puts : (b : PgnBytes) (i n : ℕ) (lead : Lead) → b.start.0 + b.len.0 ≤ lent → Whole n lead b.len.0 → P (if_room_lem i size at n (Ok (Text (bits n) lead b)))
     room-puts b i n lead l w =
-        picked (ltb (size * 8) (at + n)) (Refused (BitWriteError i (OutOfBits (bits n) (bits (size * 8 - at))))) (Text (bits n) lead b) (λ _. refl) (λ m. (small, (ltb-false _ _ m, (l, w))))
+        picked (ltb (size * 8) (at + n)) (Err (BitWriteError i (OutOfBits (bits n) (bits (size * 8 - at))))) (Ok (Text (bits n) lead b)) (λ _. refl) (λ m. (small, (ltb-false _ _ m, (l, w))))
 
-    aligned-puts : (i put : ℕ) (w : Weighed) → P w → P (if_aligned_lem i at put w)
-    aligned-puts i put w h = picked (eqb (at % 8) 0) w (Refused (BitWriteError i (NonAlignedBit (bits (saturated (at + put)))))) (λ _. h) (λ _. refl)
+    aligned-puts : (i put : ℕ) (w : Result Weighed EncodeRefusal) → P w → P (if_aligned_lem i at put w)
+    aligned-puts i put w h = picked (eqb (at % 8) 0) w (Err (BitWriteError i (NonAlignedBit (bits (saturated (at + put)))))) (λ _. h) (λ _. refl)
 
     text-puts : (b : PgnBytes) (i : ℕ) (over aligned : Bool) (put n : ℕ) (lead : Lead) → (over ≡ false → Whole n lead b.len.0) → P (text_by b i lent size at over aligned put n lead)
     text-puts b i over aligned put n lead w =
-        let told : Weighed = if_room_lem i size at n (Text (bits n) lead b) in
-        picked (over || ltb lent (b.start.0 + b.len.0)) (Refused (TextTooLong i)) (pick aligned (if_aligned_lem i at put told) told) (λ _. refl)
+        let told : Result Weighed EncodeRefusal = if_room_lem i size at n (Ok (Text (bits n) lead b)) in
+        picked (over || ltb lent (b.start.0 + b.len.0)) (Err (TextTooLong i)) (pick aligned (if_aligned_lem i at put told) told) (λ _. refl)
         (λ h. let o = or-false over (ltb lent (b.start.0 + b.len.0)) h in
         let q : P told = room-puts b i n lead (ltb-false _ _ o.1) (w o.0) in
         picked aligned (if_aligned_lem i at put told) told (λ _. aligned-puts i put told q) (λ _. q))
 
-    unencoded-puts : (e : Encoding) (i : ℕ) (w : Weighed) → P w → P (unencoded e i w)
+    unencoded-puts : (e : Encoding) (i : ℕ) (w : Result Weighed EncodeRefusal) → P w → P (unencoded e i w)
     unencoded-puts encoding.Absent i w h = h
     unencoded-puts (encoding.Byte x) i w h = refl
 
@@ -93,7 +95,7 @@ module _ (size at lent : ℕ) where
     lau-puts (encoding.Byte x) b i =
         text-puts b i (ltb 221 b.len.0) (not (eqb b.len.0 0)) 16 (16 + 8 * b.len.0) (Encoded x) (λ _. record { bytes = b.len.0 + 2; same = around-more b.len.0; fits = omega arith })
 
-    bytes-puts : (v : PgnValue) (i : ℕ) (f : PgnBytes → Weighed) → ((b : PgnBytes) → P (f b)) → P (by_bytes v i f)
+    bytes-puts : (v : PgnValue) (i : ℕ) (f : PgnBytes → Result Weighed EncodeRefusal) → ((b : PgnBytes) → P (f b)) → P (by_bytes v i f)
     bytes-puts (Bytes b) i f h = h b
     bytes-puts (U64 n) i f h = refl
     bytes-puts (U32 n) i f h = refl

@@ -1,4 +1,5 @@
 -- What one turn comes to, by what was weighed and tested. Assumes nothing.
+use Rattle.std.specs.Prelude.{Result, Ok, Err}
 use mathlib.Core.Path.{◌≡◌, refl, ap, ap₂, ◌∙◌}
 use mathlib.Core.Bool.{Bool, true, false}
 use mathlib.Core.List.{List}
@@ -18,41 +19,36 @@ use Rattle.walking.proofs.Looked.{looked}
 use Rattle.offers.specs.declared.Offer.{Offer}
 use Rattle.weighing.specs.declared.EncodeRefusal.{EncodeRefusal}
 use Rattle.weighing.specs.declared.Weighed.{Weighed}
-use Rattle.weighing.specs.declared.Weighed.TheVariants as weighed
 use Rattle.writing.specs.declared.Pen.{Pen}
 use Rattle.writing.specs.declared.Draft.{Draft}
-use Rattle.writing.specs.declared.Stroke.TheVariants.{Moved, Refused}
+use Rattle.writing.specs.declared.Stroke.TheVariants.{Moved}
 use Rattle.writing.specs.Ink.{inked}
 use Rattle.writing.specs.Encode.{Mark, mark_at, content_of_lem, pen_after_lem, settled, one_of, count_of, too_many}
 use Rattle.writing.specs.Strokes.{stroked_to, stroke_by, spot_by, span_of, shown, left_by, turn_of, left_of, put_by, weighing_to, weighing_at, weighing_of}
 
 module _ (t : Table) (o : Offer) (here : Spot) where
   -- at a field
-  pub settled-shown : (i : ℕ) (e : Element) (s : Pen) (to : Spot) (w : Weighed)
+  pub settled-shown : (i : ℕ) (e : Element) (s : Pen) (to : Spot) (w : Result Weighed EncodeRefusal)
       → stroked_to (stroke_by w (span_of (mark_at i e s.at.0 w))) (spot_by w to here) (pen_after_lem t i e s w) ≡ shown t o here (seen to s (settled t i e s w))
   unfolding seen
-  settled-shown i e s to (weighed.Number n r) = refl
-  settled-shown i e s to (weighed.Gap n) = refl
-  settled-shown i e s to (weighed.Text n lead b) = refl
-  settled-shown i e s to (weighed.Refused f) = refl
+  settled-shown i e s to (Ok w) = refl
+  settled-shown i e s to (Err f) = refl
 
-  pub settled-left : (lent buffer : List ℕ) (i : ℕ) (e : Element) (s : Pen) (to : Spot) (w : Weighed) → inked buffer s.at.0 w lent ≡ left_by lent buffer (seen to s (settled t i e s w))
+  pub settled-left : (lent buffer : List ℕ) (i : ℕ) (e : Element) (s : Pen) (to : Spot) (w : Result Weighed EncodeRefusal) → inked buffer s.at.0 w lent ≡ left_by lent buffer (seen to s (settled t i e s w))
   unfolding seen
-  settled-left lent buffer i e s to (weighed.Number n r) = refl
-  settled-left lent buffer i e s to (weighed.Gap n) = refl
-  settled-left lent buffer i e s to (weighed.Text n lead b) = refl
-  settled-left lent buffer i e s to (weighed.Refused f) = refl
+  settled-left lent buffer i e s to (Ok w) = refl
+  settled-left lent buffer i e s to (Err f) = refl
 
   -- where a set starts: it is entered, or has too many elements
   module _ (lent size : ℕ) where
     abbrev entered : ℕ → ℕ → Pen → Turn Mark Pen EncodeRefusal
     entered k n s = enter_with t (one_of t (λ (j : ℕ). o) lent size) (count_of t) too_many k n s
 
-    pub enters : (k n : ℕ) (s : Pen) → n ≤ (t.set k).maximum → stroked_to Moved (spot.Within k n 0 0) s ≡ shown t o here (entered k n s)
+    pub enters : (k n : ℕ) (s : Pen) → n ≤ (t.set k).maximum → stroked_to (Ok Moved) (spot.Within k n 0 0) s ≡ shown t o here (entered k n s)
     unfolding either
     enters k n s l = rw (le-leb _ _ l)
 
-    pub exceeds : (k n : ℕ) (s : Pen) → (t.set k).maximum < n → stroked_to (Refused (too_many k n (t.set k).maximum)) here s ≡ shown t o here (entered k n s)
+    pub exceeds : (k n : ℕ) (s : Pen) → (t.set k).maximum < n → stroked_to (Err (too_many k n (t.set k).maximum)) here s ≡ shown t o here (entered k n s)
     unfolding either
     exceeds k n s l = rw (lt-leb _ _ l)
 

@@ -1,5 +1,6 @@
 -- Reading walks as writing did: it meets the same fields and elements, at the same spans, with the same counters, and ends where the pen does.
 -- Assumes nothing.
+use Rattle.std.specs.Prelude.{Result, Ok, Err, None}
 use mathlib.Core.Path.{◌≡◌, refl, sym, ap, ap₂, ◌∙◌, subst}
 use mathlib.Core.Bool.{Bool}
 use mathlib.Core.List.{List, [], ◌∷◌, ◌++◌, map}
@@ -7,7 +8,6 @@ use Prim.Native.Nat.{ℕ, ◌+◌, ◌*◌, ◌^◌, ◌≤◌, ◌<◌}
 use native.Mathlib.Omega.{arith}
 use lib.ListN.{length}
 use borrow.Author.Tests.{lt-ltb}
-use Rattle.std.specs.Prelude.{None, Result, Ok}
 use Rattle.descriptor.specs.declared.PgnValue.{PgnValue}
 use Rattle.numbers.specs.Conversions.{raw_of_lem}
 use Rattle.numbers.specs.declared.RawOf.TheVariants as rawed
@@ -37,7 +37,7 @@ use Rattle.reading.specs.Decode as decode
 use Rattle.reading.specs.Demand3.{unskipped, unskipped_in}
 use Rattle.weighing.specs.declared.EncodeRefusal.{EncodeRefusal}
 use Rattle.weighing.specs.declared.Weighed.{Weighed}
-use Rattle.weighing.specs.declared.Weighed.TheVariants.{Number, Gap, Text, Refused}
+use Rattle.weighing.specs.declared.Weighed.TheVariants.{Number, Gap, Text}
 use Rattle.offers.specs.declared.Offer.{Offer}
 use Rattle.writing.specs.declared.Pen.{Pen}
 use Rattle.writing.specs.Encode.{Mark, mark_at, content_of_lem, pen_after_lem, one_of, count_of, too_many, beginning, writes_of}
@@ -67,24 +67,24 @@ noted-none t (At x) i cs = refl
 -- ## One field, read where it was written
 
 -- the raw of a number that was written
-abbrev RawBack : Payload → ℕ → Weighed → Type 0
-RawBack p at (Number n r) = p.bits at n.0 ≡ r
-RawBack p at (Gap n) = Unit {0}
-RawBack p at (Text n lead b) = Unit {0}
-RawBack p at (Refused e) = Unit {0}
+abbrev RawBack : Payload → ℕ → Result Weighed EncodeRefusal → Type 0
+RawBack p at (Ok (Number n r)) = p.bits at n.0 ≡ r
+RawBack p at (Ok (Gap n)) = Unit {0}
+RawBack p at (Ok (Text n lead b)) = Unit {0}
+RawBack p at (Err e) = Unit {0}
 
 module _ (lent : ℕ) (t : Table) (p : Payload) (room i : ℕ) (e : Element) (s : Pen) (made : ℕ) where
   -- the reader stands where the pen stood, and then where it stands
   abbrev stood : Progress
   stood = progress_at s.at.0 made s.counters
 
-  abbrev read : Shape → Weighed → One Span Progress DecodeRefusal
+  abbrev read : Shape → Result Weighed EncodeRefusal → One Span Progress DecodeRefusal
   read sh x = decode.settled t room i e stood (Ok (read_as sh (t.field i) p s.at.0 (size_of x).0))
 
-  abbrev stands : Shape → Weighed → Progress
+  abbrev stands : Shape → Result Weighed EncodeRefusal → Progress
   stands sh x = progress_at (pen_after_lem t i e s x).at.0 (made + unskipped sh) (pen_after_lem t i e s x).counters
 
-  settled_back : {sh : Shape} {x : Weighed} → Meant Held (t.field i) lent s.at.0 sh x → Kept x → RawBack p s.at.0 x → made + unskipped sh ≤ room
+  settled_back : {sh : Shape} {x : Result Weighed EncodeRefusal} → Meant Held (t.field i) lent s.at.0 sh x → Kept x → RawBack p s.at.0 x → made + unskipped sh ≤ room
       → read sh x ≡ hit (span_of (mark_at i e s.at.0 x)) (stands sh x)
   unfolding check
   settled_back (a-number v g q u m) h r l = rw (lt-ltb made room (omega arith), r)
@@ -134,12 +134,12 @@ module _ (t : Table) (ok : check_of t ≡ Ok tt) (offered : ℕ → Offer) (know
   raws : (m : Mark) → P m → Holds p lent m → RawBack p m.start m.content
   raws m a h = go m.content a.weighed h
     where
-      go : (x : Weighed) → content_of_lem (offered a.turn) (t.field m.field) m.field (length lent) size m.start ≡ x
+      go : (x : Result Weighed EncodeRefusal) → content_of_lem (offered a.turn) (t.field m.field) m.field (length lent) size m.start ≡ x
           → Holds p lent (mark_at m.field m.element m.start x) → RawBack p m.start x
-      go (Number n r) q k = raw-back Held byted t raws-fit p small lent texts size m.field a.known m.element m.start (offered a.turn) (known a.turn) n r (sym q) k
-      go (Gap n) q k = tt
-      go (Text n lead b) q k = tt
-      go (Refused e) q k = tt
+      go (Ok (Number n r)) q k = raw-back Held byted t raws-fit p small lent texts size m.field a.known m.element m.start (offered a.turn) (known a.turn) n r (sym q) k
+      go (Ok (Gap n)) q k = tt
+      go (Ok (Text n lead b)) q k = tt
+      go (Err e) q k = tt
 
   pub reading-back : (m : Mark) → P m → Holds p lent m → Back p lent (reading_of t p (span_of m)) m.content
   reading-back m a h = back Held byted t raws-fit p small lent texts size m.field a.known m.element m.start (offered a.turn) (known a.turn) m.content (sym a.weighed) h a.kept
@@ -152,7 +152,7 @@ module _ (t : Table) (ok : check_of t ≡ Ok tt) (offered : ℕ → Offer) (know
       pub inside : s.at.0 ≤ p.size * 8
       pub holds : All (Holds p lent) ms
 
-    unskipped-more : (i : ℕ) (e : Element) (at : ℕ) (x : Weighed) (m : Mark) (ms : List Mark) → m ≡ mark_at i e at x
+    unskipped-more : (i : ℕ) (e : Element) (at : ℕ) (x : Result Weighed EncodeRefusal) (m : Mark) (ms : List Mark) → m ≡ mark_at i e at x
         → unskipped_in t (spans_in (m ∷ ms)) ≡ unskipped (shape_of (t.field i)) + unskipped_in t (spans_in ms)
     unfolding spans_in unskipped_in
     unskipped-more i e at x m ms h = ap (λ (y : Mark). unskipped (shape_of (t.field y.field)) + unskipped_in t (spans_in ms)) h

@@ -25,7 +25,7 @@ Begins r after words buffer =
 -- ## One field
 
 -- `write_field`: what was weighed, put at a bit
-abbrev pub Puts : Weighed → List ℕ → Weighed → List ℕ → List ℕ → ℕ → Type 0
+abbrev pub Puts : Result Weighed EncodeRefusal → List ℕ → Result Weighed EncodeRefusal → List ℕ → List ℕ → ℕ → Type 0
 Puts r after weighed lent buffer at = (r ≡ weighed) × (after ≡ inked buffer at weighed lent)
 
 -- `enter`: set k, which touches no buffer

@@ -32,9 +32,9 @@ pub record Mark : Type 0 where
   pub field : ℕ
   pub element : Element
   pub start : ℕ
-  pub content : Weighed
+  pub content : Result Weighed EncodeRefusal
 
-abbrev pub mark_at : ℕ → Element → ℕ → Weighed → Mark
+abbrev pub mark_at : ℕ → Element → ℕ → Result Weighed EncodeRefusal → Mark
 mark_at i e at w = record { field = i; element = e; start = at; content = w }
 
 -- the cursor, the values used, the counters
@@ -42,28 +42,26 @@ abbrev pub pen_at : ℕ → ℕ → List ℕ → Pen
 pen_at at used cs = record { at = bits at; used = used; counters = cs }
 
 -- "At an encoded field: 12, 11, 10 or 13, 3, 2"; what is of no kind is of another
-abbrev pub offered_of : Offer → FieldDescriptor → ℕ → ℕ → ℕ → ℕ → Weighed
-offered_of Nothing f i lent size at = weighed.Refused (ValueCount i)
-offered_of NoKind f i lent size at = weighed.Refused (WrongKind i)
+abbrev pub offered_of : Offer → FieldDescriptor → ℕ → ℕ → ℕ → ℕ → Result Weighed EncodeRefusal
+offered_of Nothing f i lent size at = Err (ValueCount i)
+offered_of NoKind f i lent size at = Err (WrongKind i)
 offered_of (Value v) f i lent size at = weighed_of f i v lent size at
 
 -- "Skipped fields stay ones", and take no value
-abbrev pub content_of_lem : Offer → FieldDescriptor → ℕ → ℕ → ℕ → ℕ → Weighed
+abbrev pub content_of_lem : Offer → FieldDescriptor → ℕ → ℕ → ℕ → ℕ → Result Weighed EncodeRefusal
 content_of_lem o f i lent size at = pick (is_gap_lem (shape_of f)) (gap_of f i size at) (offered_of o f i lent size at)
 
 -- where the pen stands once that is written: its value is used. That number saturates, since a step takes any walk
-abbrev pub pen_after_lem : Table → ℕ → Element → Pen → Weighed → Pen
-pen_after_lem t i e s (weighed.Number n r) = pen_at (s.at.0 + n.0) (saturated (s.used + 1)) (noted_by_lem t e i (Some r) s.counters)
-pen_after_lem t i e s (weighed.Gap n) = pen_at (s.at.0 + n.0) s.used s.counters
-pen_after_lem t i e s (weighed.Text n lead b) = pen_at (s.at.0 + n.0) (saturated (s.used + 1)) s.counters
-pen_after_lem t i e s (weighed.Refused f) = s
+abbrev pub pen_after_lem : Table → ℕ → Element → Pen → Result Weighed EncodeRefusal → Pen
+pen_after_lem t i e s (Ok (weighed.Number n r)) = pen_at (s.at.0 + n.0) (saturated (s.used + 1)) (noted_by_lem t e i (Some r) s.counters)
+pen_after_lem t i e s (Ok (weighed.Gap n)) = pen_at (s.at.0 + n.0) s.used s.counters
+pen_after_lem t i e s (Ok (weighed.Text n lead b)) = pen_at (s.at.0 + n.0) (saturated (s.used + 1)) s.counters
+pen_after_lem t i e s (Err f) = s
 
 -- what is weighed is written; what is refused is not
-abbrev pub settled : Table → ℕ → Element → Pen → Weighed → One Mark Pen EncodeRefusal
-settled t i e s (weighed.Number n r) = hit (mark_at i e s.at.0 (weighed.Number n r)) (pen_after_lem t i e s (weighed.Number n r))
-settled t i e s (weighed.Gap n) = hit (mark_at i e s.at.0 (weighed.Gap n)) (pen_after_lem t i e s (weighed.Gap n))
-settled t i e s (weighed.Text n lead b) = hit (mark_at i e s.at.0 (weighed.Text n lead b)) (pen_after_lem t i e s (weighed.Text n lead b))
-settled t i e s (weighed.Refused f) = miss f
+abbrev pub settled : Table → ℕ → Element → Pen → Result Weighed EncodeRefusal → One Mark Pen EncodeRefusal
+settled t i e s (Ok w) = hit (mark_at i e s.at.0 (Ok w)) (pen_after_lem t i e s (Ok w))
+settled t i e s (Err f) = miss f
 
 -- "Values come in walk order": field i, of element e, with the next value, a lent text of so many bytes and a buffer of `size`
 abbrev pub one_of : Table → (ℕ → Offer) → ℕ → ℕ → ℕ → Element → Bool → Pen → One Mark Pen EncodeRefusal

@@ -1,11 +1,12 @@
 -- What is put of a field that was weighed: document 01, "Writing a payload".
-use Rattle.std.specs.Prelude.{◌≡◌, ℕ, ◌+◌, ◌-◌, ◌*◌, ◌/◌, ◌≤◌, ◌<◌, List, [], ◌∷◌, ◌++◌, length, take, drop, replicate}
+use Rattle.std.specs.Prelude.{◌≡◌, ℕ, ◌+◌, ◌-◌, ◌*◌, ◌/◌, ◌≤◌, ◌<◌, List, [], ◌∷◌, ◌++◌, length, take, drop, replicate, Result, Ok, Err}
+use Rattle.weighing.specs.declared.EncodeRefusal.{EncodeRefusal}
 use Rattle.bits.specs.Bits.{written}
 use Rattle.descriptor.specs.declared.PgnBytes.{PgnBytes}
 use Rattle.weighing.specs.declared.Lead.{Lead}
 use Rattle.weighing.specs.declared.Lead.TheVariants.{Bare, Counted, Encoded, Empty}
 use Rattle.weighing.specs.declared.Weighed.{Weighed}
-use Rattle.weighing.specs.declared.Weighed.TheVariants.{Number, Gap, Text, Refused}
+use Rattle.weighing.specs.declared.Weighed.TheVariants.{Number, Gap, Text}
 use Rattle.tables.specs.Check.{payload_max}
 
 -- the bytes at a place of the lent text
@@ -33,11 +34,11 @@ poured buffer at [] = buffer
 poured buffer at (x ∷ xs) = poured (written buffer at 8 x) (at + 8) xs
 
 -- a field that starts at a bit. "Skipped fields stay ones": nothing is put
-abbrev pub inked : List ℕ → ℕ → Weighed → List ℕ → List ℕ
-inked buffer at (Number n raw) lent = written buffer at n.0 raw
-inked buffer at (Gap n) lent = buffer
-inked buffer at (Text n lead b) lent = poured buffer at (bytes_by lead n.0 (text_in_lem lent b))
-inked buffer at (Refused e) lent = buffer
+abbrev pub inked : List ℕ → ℕ → Result Weighed EncodeRefusal → List ℕ → List ℕ
+inked buffer at (Ok (Number n raw)) lent = written buffer at n.0 raw
+inked buffer at (Ok (Gap n)) lent = buffer
+inked buffer at (Ok (Text n lead b)) lent = poured buffer at (bytes_by lead n.0 (text_in_lem lent b))
+inked buffer at (Err e) lent = buffer
 
 -- n bits are whole bytes, and a text of `len` bytes with what stands around it fits them
 pub record Whole (n : ℕ) (lead : Lead) (len : ℕ) : Type 0 where
@@ -47,8 +48,8 @@ pub record Whole (n : ℕ) (lead : Lead) (len : ℕ) : Type 0 where
 
 -- what has room: so many bytes of buffer, a cursor, so many bytes of lent text. What `weigh_field` and `weigh_gap` let through is so:
 -- proofs/Puts.antt
-abbrev pub Puttable : ℕ → ℕ → Weighed → ℕ → Type 0
-Puttable size at (Number n raw) lent = (size ≤ payload_max) × ((0 < n.0) × ((n.0 ≤ 64) × (at + n.0 ≤ size * 8)))
-Puttable size at (Gap n) lent = (size ≤ 65536) × (at + n.0 ≤ size * 8)
-Puttable size at (Text n lead b) lent = (size ≤ payload_max) × ((at + n.0 ≤ size * 8) × ((b.start.0 + b.len.0 ≤ lent) × Whole n.0 lead b.len.0))
-Puttable size at (Refused e) lent = size ≡ size
+abbrev pub Puttable : ℕ → ℕ → Result Weighed EncodeRefusal → ℕ → Type 0
+Puttable size at (Ok (Number n raw)) lent = (size ≤ payload_max) × ((0 < n.0) × ((n.0 ≤ 64) × (at + n.0 ≤ size * 8)))
+Puttable size at (Ok (Gap n)) lent = (size ≤ 65536) × (at + n.0 ≤ size * 8)
+Puttable size at (Ok (Text n lead b)) lent = (size ≤ payload_max) × ((at + n.0 ≤ size * 8) × ((b.start.0 + b.len.0 ≤ lent) × Whole n.0 lead b.len.0))
+Puttable size at (Err e) lent = size ≡ size

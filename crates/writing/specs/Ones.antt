@@ -5,7 +5,7 @@ use Rattle.weighing.specs.declared.EncodeRefusal.{EncodeRefusal}
 use Rattle.bits.specs.declared.ByteCount.{ByteCount}
 use Rattle.tables.specs.Table.{Table}
 use Rattle.weighing.specs.declared.Weighed.{Weighed}
-use Rattle.weighing.specs.declared.Weighed.TheVariants.{Number, Gap, Text, Refused}
+use Rattle.weighing.specs.declared.Weighed.TheVariants.{Number, Gap, Text}
 use Rattle.weighing.specs.Refusals.{number_of}
 use Rattle.offers.specs.Values.{Values}
 use Rattle.writing.specs.Encode.{Mark, writes_of, marks_of}
@@ -29,11 +29,11 @@ abbrev pub end_at : List Mark → ℕ
 end_at ms = end_from 0 ms
 
 -- "Skipped fields stay ones": a skipped field puts no bit, any other its own
-abbrev pub inks : Weighed → Bool
-inks (Number n r) = true
-inks (Gap n) = false
-inks (Text n lead b) = true
-inks (Refused e) = false
+abbrev pub inks : Result Weighed EncodeRefusal → Bool
+inks (Ok (Number n r)) = true
+inks (Ok (Gap n)) = false
+inks (Ok (Text n lead b)) = true
+inks (Err e) = false
 
 -- whether a field puts bit i
 abbrev pub puts : Mark → ℕ → Bool

@@ -2,7 +2,8 @@
 -- writes, the first bytes used of the buffer, decode reads: the same fields, elements, spans and raw numbers, the same LZ, LAU and Binary bytes,
 -- a StringFix as its text followed by the fill, ending where encode ended; the table's filling included. Definitions only: that it holds is
 -- `proofs/ReadsBack.antt`.
-use Rattle.std.specs.Prelude.{◌≡◌, ℕ, zero, suc, ◌-◌, ◌*◌, ◌/◌, ◌≤◌, ◌<◌, List, [], ◌∷◌, ◌++◌, length, replicate, take, Some, None}
+use Rattle.std.specs.Prelude.{◌≡◌, ℕ, zero, suc, ◌-◌, ◌*◌, ◌/◌, ◌≤◌, ◌<◌, List, [], ◌∷◌, ◌++◌, length, replicate, take, Some, None, Result, Ok, Err}
+use Rattle.weighing.specs.declared.EncodeRefusal.{EncodeRefusal}
 use Rattle.descriptor.specs.declared.Encoding.{Encoding}
 use Rattle.descriptor.specs.declared.Encoding.TheVariants as encoding
 use Rattle.descriptor.specs.declared.PgnBytes.{PgnBytes}
@@ -25,7 +26,7 @@ use Rattle.offers.specs.declared.Offer.TheVariants.{Nothing, NoKind, Value}
 use Rattle.weighing.specs.declared.Lead.{Lead}
 use Rattle.weighing.specs.declared.Lead.TheVariants.{Bare, Counted, Encoded, Empty}
 use Rattle.weighing.specs.declared.Weighed.{Weighed}
-use Rattle.weighing.specs.declared.Weighed.TheVariants.{Number, Gap, Text, Refused}
+use Rattle.weighing.specs.declared.Weighed.TheVariants.{Number, Gap, Text}
 use Rattle.writing.specs.declared.Pen.{Pen}
 use Rattle.writing.specs.Ink.{text_in_lem}
 use Rattle.writing.specs.Encode.{Mark, writes_of, bytes_used_lem, buffer_after}
@@ -64,11 +65,11 @@ pub record TextBack (p : Payload) (r : Reading) (text : List ℕ) (enc : Encodin
   pub bytes : bytes_at p place.start.0 place.len.0 ≡ text
 
 -- "the same raw numbers": a reading of what was written
-abbrev pub Back : Payload → List ℕ → Reading → Weighed → Type 0
-Back p lent r (Number n x) = r.raw ≡ Some x
-Back p lent r (Gap n) = Unit {0}
-Back p lent r (Text n lead b) = TextBack p r (text_back lead n.0 (text_in_lem lent b)) (encoding_back lead)
-Back p lent r (Refused e) = ⊥
+abbrev pub Back : Payload → List ℕ → Reading → Result Weighed EncodeRefusal → Type 0
+Back p lent r (Ok (Number n x)) = r.raw ≡ Some x
+Back p lent r (Ok (Gap n)) = Unit {0}
+Back p lent r (Ok (Text n lead b)) = TextBack p r (text_back lead n.0 (text_in_lem lent b)) (encoding_back lead)
+Back p lent r (Err e) = ⊥
 
 -- what was written as ms, up to where the pen stands, and was received as these bytes
 pub record ReadBack (t : Table) (lent received : List ℕ) (room : ℕ) (ms : List Mark) (s : Pen) : Type 0 where

@@ -20,7 +20,7 @@ use Rattle.offers.specs.declared.Offer.TheVariants.{Nothing, NoKind, Value}
 use Rattle.writing.specs.declared.Pen.{Pen}
 use Rattle.writing.specs.declared.Draft.{Draft}
 use Rattle.writing.specs.declared.Stroke.{Stroke}
-use Rattle.writing.specs.declared.Stroke.TheVariants.{Wrote, Skipped, Moved, Ended, Refused}
+use Rattle.writing.specs.declared.Stroke.TheVariants.{Wrote, Skipped, Moved, Ended}
 use Rattle.writing.specs.declared.Stroked.{Stroked}
 use Rattle.writing.specs.declared.Weighing.{Weighing}
 use Rattle.writing.specs.Ink.{inked}
@@ -29,53 +29,49 @@ use Rattle.writing.specs.Encode.{Mark, content_of_lem, one_of, count_of, too_man
 abbrev pub draft_at : Spot → Pen → Draft
 draft_at q s = record { spot = q; pen = s }
 
-abbrev pub stroked_to : Stroke → Spot → Pen → Stroked
+abbrev pub stroked_to : Result Stroke EncodeRefusal → Spot → Pen → Stroked
 stroked_to a q s = record { stroke = a; draft = draft_at q s }
 
 -- the bits that what was weighed takes
-abbrev pub size_of : Weighed → BitPos
-size_of (weighed.Number n r) = n
-size_of (weighed.Gap n) = n
-size_of (weighed.Text n lead b) = n
-size_of (weighed.Refused e) = bits 0
+abbrev pub size_of : Result Weighed EncodeRefusal → BitPos
+size_of (Ok (weighed.Number n r)) = n
+size_of (Ok (weighed.Gap n)) = n
+size_of (Ok (weighed.Text n lead b)) = n
+size_of (Err e) = bits 0
 
 -- the cursor after what was weighed is a number of 64 bits: what lies in a buffer is so, proofs/Contents.antt
-abbrev pub Reaches : ℕ → Weighed → Type 0
-Reaches at (weighed.Number n r) = at + n.0 < 2 ^ 64
-Reaches at (weighed.Gap n) = at + n.0 < 2 ^ 64
-Reaches at (weighed.Text n lead b) = at + n.0 < 2 ^ 64
-Reaches at (weighed.Refused e) = at ≡ at
+abbrev pub Reaches : ℕ → Result Weighed EncodeRefusal → Type 0
+Reaches at (Ok w) = at + (size_of (Ok w)).0 < 2 ^ 64
+Reaches at (Err e) = at ≡ at
 
 -- where a field was met
 abbrev pub span_of : Mark → Span
 span_of m = record { field = m.field; element = m.element; start = bits m.start; bits = size_of m.content }
 
 -- a field met; one that was refused is not
-abbrev pub stroke_by : Weighed → Span → Stroke
-stroke_by (weighed.Number n r) v = Wrote v
-stroke_by (weighed.Gap n) v = Skipped v
-stroke_by (weighed.Text n lead b) v = Wrote v
-stroke_by (weighed.Refused e) v = Refused e
+abbrev pub stroke_by : Result Weighed EncodeRefusal → Span → Result Stroke EncodeRefusal
+stroke_by (Ok (weighed.Number n r)) v = Ok (Wrote v)
+stroke_by (Ok (weighed.Gap n)) v = Ok (Skipped v)
+stroke_by (Ok (weighed.Text n lead b)) v = Ok (Wrote v)
+stroke_by (Err e) v = Err e
 
 -- where the walk then stands: a refused one stays `here`
-abbrev pub spot_by : Weighed → Spot → Spot → Spot
-spot_by (weighed.Number n r) to here = to
-spot_by (weighed.Gap n) to here = to
-spot_by (weighed.Text n lead b) to here = to
-spot_by (weighed.Refused e) to here = here
+abbrev pub spot_by : Result Weighed EncodeRefusal → Spot → Spot → Spot
+spot_by (Ok w) to here = to
+spot_by (Err e) to here = here
 
 -- "left-over values last": 12, with the field count
-abbrev pub end_by_lem : Table → Offer → Stroke
-end_by_lem t Nothing = Ended
-end_by_lem t NoKind = Refused (ValueCount t.count)
-end_by_lem t (Value v) = Refused (ValueCount t.count)
+abbrev pub end_by_lem : Table → Offer → Result Stroke EncodeRefusal
+end_by_lem t Nothing = Ok Ended
+end_by_lem t NoKind = Err (ValueCount t.count)
+end_by_lem t (Value v) = Err (ValueCount t.count)
 
 -- what a turn came to: a walk that has ended or was refused stays at its spot
 abbrev pub shown : Table → Offer → Spot → Turn Mark Pen EncodeRefusal → Stroked
-shown t o here (moved q s) = stroked_to Moved q s
+shown t o here (moved q s) = stroked_to (Ok Moved) q s
 shown t o here (met m q s) = stroked_to (stroke_by m.content (span_of m)) q s
 shown t o here (ended s) = stroked_to (end_by_lem t o) here s
-shown t o here (broke f s) = stroked_to (Refused f) here s
+shown t o here (broke f s) = stroked_to (Err f) here s
 
 -- .. and what it leaves: "the faulty field leaves no bit"
 abbrev pub left_by : List ℕ → List ℕ → Turn Mark Pen EncodeRefusal → List ℕ
@@ -98,17 +94,17 @@ left_of t o lent buffer d = left_by lent buffer (turn_of t o (length lent) (leng
 -- ## A turn before anything is put
 
 -- no bit
-abbrev pub nothing : Weighed
-nothing = weighed.Gap (bits 0)
+abbrev pub nothing : Result Weighed EncodeRefusal
+nothing = Ok (weighed.Gap (bits 0))
 
 -- what a turn puts: the content of the field that it meets, which may be a refusal
-abbrev pub put_by : Table → Offer → ℕ → ℕ → Pen → Look → Weighed
+abbrev pub put_by : Table → Offer → ℕ → ℕ → Pen → Look → Result Weighed EncodeRefusal
 put_by t o lent size s End = nothing
 put_by t o lent size s (Pass q) = nothing
 put_by t o lent size s (Enter k) = nothing
 put_by t o lent size s (Meet i e last q) = content_of_lem o (t.field i) i lent size s.at.0
 
-abbrev pub weighing_to : Stroked → Weighed → Weighing
+abbrev pub weighing_to : Stroked → Result Weighed EncodeRefusal → Weighing
 weighing_to a w = record { stroked = a; content = w }
 
 -- by what is to be done at the spot

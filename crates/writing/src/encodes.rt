@@ -32,22 +32,11 @@ fn written(
 {
     let mut draft = strokes::start();
     loop {
-        let pen = draft.pen;
-        let offer = offers::offer_at(values, pen.used);
+        let offer = offers::offer_at(values, draft.pen.used);
         let next = strokes::write_next(words, buffer, lent, draft, offer);
-        let stroke = next.stroke;
         draft = next.draft;
-        let after = draft.pen;
-        match stroke {
-            Stroke::Wrote(_) => {}
-            Stroke::Skipped(_) => {}
-            Stroke::Moved => {}
-            Stroke::Ended => {
-                return Ok(bytes_used(after.at));
-            }
-            Stroke::Refused(refusal) => {
-                return Err(refusal);
-            }
+        if let Stroke::Ended = next.stroke? {
+            return Ok(bytes_used(draft.pen.at));
         }
     }
 }

@@ -10,7 +10,7 @@ ghost use Rattle.writing.specs.Clauses.{Puts};
 
 use bits::{BitPos, Cursor};
 use descriptor::{FieldDescriptor, PgnBytes, PgnValue};
-use weighing::{Lead, Weighed};
+use weighing::{EncodeRefusal, Lead, Weighed};
 
 // Puts a byte at a bit.
 fn put_byte(buffer: &mut [u8], at: usize, x: u8)
@@ -91,8 +91,8 @@ fn put_text(buffer: &mut [u8], at: usize, size: usize, lead: Lead, b: PgnBytes, 
 
 // Puts what was weighed at a bit: what inks has room.
 pub(crate) fn put_weighed(buffer: &mut [u8], at: usize, weighed: Weighed, lent: &[u8])
-    requires { inks weighed ≡ true → Puttable (length buffer.old) at weighed (length lent.now) }
-    ensures { buffer.new ≡ inked buffer.old at weighed lent.now }
+    requires { inks (Ok weighed) ≡ true → Puttable (length buffer.old) at (Ok weighed) (length lent.now) }
+    ensures { buffer.new ≡ inked buffer.old at (Ok weighed) lent.now }
 {
     match weighed {
         Weighed::Number { bits, raw } => put_number(buffer, at, bits.0, raw),
@@ -100,7 +100,6 @@ pub(crate) fn put_weighed(buffer: &mut [u8], at: usize, weighed: Weighed, lent: 
         Weighed::Text { bits, lead, text } => {
             put_text(buffer, at, bits.0 / 8, lead, text, lent);
         }
-        Weighed::Refused(_) => {}
     }
 }
 
@@ -122,10 +121,10 @@ pub fn write_field(
     i: usize,
     value: PgnValue,
     lent: &[u8],
-) -> Weighed
+) -> Result<Weighed, EncodeRefusal>
     ensures { Puts result buffer.new (weighed_of f i value (length lent.now) (length buffer.old) at.0) lent.now buffer.old at.0 }
 {
-    let weighed = weighing::weigh_field(f, i, value, lent.len(), buffer.len(), at);
+    let weighed = weighing::weigh_field(f, i, value, lent.len(), buffer.len(), at)?;
     put_weighed(buffer, at.0, weighed, lent);
-    weighed
+    Ok(weighed)
 }

@@ -45,7 +45,7 @@ pub struct Draft {
     pub pen: Pen,
 }
 
-// What one turn came to.
+// What one turn came to, if it was not refused.
 #[derive(Clone, Copy)]
 pub enum Stroke {
     // The offered value is written.
@@ -56,13 +56,12 @@ pub enum Stroke {
     Moved,
     // At the end, and nothing was offered.
     Ended,
-    Refused(EncodeRefusal),
 }
 
 // The answer of `write_next`: an enum cannot hold the counters, so the walk stands beside it.
 #[derive(Clone, Copy)]
 pub struct Stroked {
-    pub stroke: Stroke,
+    pub stroke: Result<Stroke, EncodeRefusal>,
     pub draft: Draft,
 }
 
@@ -70,5 +69,5 @@ pub struct Stroked {
 #[derive(Clone, Copy)]
 pub struct Weighing {
     pub stroked: Stroked,
-    pub content: Weighed,
+    pub content: Result<Weighed, EncodeRefusal>,
 }

@@ -3,7 +3,7 @@ ghost use Rattle.std.specs.Prelude.{◌≡◌, false, length};
 ghost use Rattle.tables.specs.Table.{table_of};
 ghost use Rattle.walking.specs.declared.Look.TheVariants as look;
 ghost use Rattle.writing.specs.Encode.{content_of_lem, pen_after_lem};
-ghost use Rattle.writing.specs.Strokes.{stroked_to, size_of, Reaches, stroke_by, spot_by, end_by_lem, start_of, nothing, weighing_to, weighing_at, weighing_of};
+ghost use Rattle.writing.specs.Strokes.{stroked_to, size_of, Reaches, stroke_by, end_by_lem, start_of, nothing, weighing_to, weighing_at, weighing_of};
 ghost use Rattle.writing.specs.Clauses.{Enters, WritesNext};
 
 use crate::ink::put_weighed;
@@ -30,7 +30,7 @@ pub fn start() -> Draft
     }
 }
 
-fn stroked(stroke: Stroke, spot: Spot, pen: Pen) -> Stroked
+fn stroked(stroke: Result<Stroke, EncodeRefusal>, spot: Spot, pen: Pen) -> Stroked
     ensures { result ≡ stroked_to stroke spot pen }
 {
     let draft = Draft { spot, pen };
@@ -39,90 +39,38 @@ fn stroked(stroke: Stroke, spot: Spot, pen: Pen) -> Stroked
 
 // The bits that what was weighed takes.
 fn size_of(weighed: Weighed) -> BitPos
-    ensures { result ≡ size_of weighed }
+    ensures { result ≡ size_of (Ok weighed) }
 {
     match weighed {
-        Weighed::Number { bits, raw: _ } => bits,
-        Weighed::Gap { bits } => bits,
-        Weighed::Text {
-            bits,
-            lead: _,
-            text: _,
-        } => bits,
-        Weighed::Refused(_) => BitPos(0),
+        Weighed::Number { bits, .. } | Weighed::Gap { bits } | Weighed::Text { bits, .. } => bits,
     }
 }
 
+// Bits that stay ones use no value; any other field is written.
 fn stroke_of(weighed: Weighed, v: Span) -> Stroke
-    ensures { result ≡ stroke_by weighed v }
+    ensures { Ok result ≡ stroke_by (Ok weighed) v }
 {
     match weighed {
-        Weighed::Number { bits: _, raw: _ } => Stroke::Wrote(v),
-        Weighed::Gap { bits: _ } => Stroke::Skipped(v),
-        Weighed::Text {
-            bits: _,
-            lead: _,
-            text: _,
-        } => Stroke::Wrote(v),
-        Weighed::Refused(e) => Stroke::Refused(e),
-    }
-}
-
-// Where the walk then stands: a refused one stays `here`.
-fn spot_after(weighed: Weighed, to: Spot, here: Spot) -> Spot
-    ensures { result ≡ spot_by weighed to here }
-{
-    match weighed {
-        Weighed::Number { bits: _, raw: _ } => to,
-        Weighed::Gap { bits: _ } => to,
-        Weighed::Text {
-            bits: _,
-            lead: _,
-            text: _,
-        } => to,
-        Weighed::Refused(_) => here,
+        Weighed::Gap { .. } => Stroke::Skipped(v),
+        _ => Stroke::Wrote(v),
     }
 }
 
 // The pen once that is written.
 fn pen_after(words: &[u64], i: usize, e: Element, pen: Pen, weighed: Weighed) -> Pen
-    requires { Reaches pen.at.0 weighed }
-    ensures { result ≡ pen_after_lem (table_of words.now) i e pen weighed }
+    requires { Reaches pen.at.0 (Ok weighed) }
+    ensures { result ≡ pen_after_lem (table_of words.now) i e pen (Ok weighed) }
 {
-    let at = pen.at.0;
-    let used = pen.used;
-    let cs = pen.counters;
+    let at = BitPos(pen.at.0 + size_of(weighed).0);
+    let used = pen.used.saturating_add(1);
     match weighed {
-        Weighed::Number { bits, raw } => {
-            let counters = reading::noted_by(words, e, i, Some(raw), cs);
-            let to = at + bits.0;
-            Pen {
-                at: BitPos(to),
-                used: bits::sum(used, 1),
-                counters,
-            }
-        }
-        Weighed::Gap { bits } => {
-            let to = at + bits.0;
-            Pen {
-                at: BitPos(to),
-                used,
-                counters: cs,
-            }
-        }
-        Weighed::Text {
-            bits,
-            lead: _,
-            text: _,
-        } => {
-            let to = at + bits.0;
-            Pen {
-                at: BitPos(to),
-                used: bits::sum(used, 1),
-                counters: cs,
-            }
-        }
-        Weighed::Refused(_) => pen,
+        Weighed::Number { raw, .. } => Pen {
+            at,
+            used,
+            counters: reading::noted_by(words, e, i, Some(raw), pen.counters),
+        },
+        Weighed::Gap { .. } => Pen { at, ..pen },
+        Weighed::Text { .. } => Pen { at, used, ..pen },
     }
 }
 
@@ -134,15 +82,15 @@ fn content_of(
     lent: usize,
     size: usize,
     at: BitPos,
-) -> Weighed
+) -> Result<Weighed, EncodeRefusal>
     ensures { result ≡ content_of_lem offer f i lent size at.0 }
 {
     if fields::is_gap(f) {
         return weighing::weigh_gap(f, i, size, at);
     }
     match offer {
-        Offer::Nothing => Weighed::Refused(EncodeRefusal::ValueCount { field: i }),
-        Offer::NoKind => Weighed::Refused(EncodeRefusal::WrongKind { field: i }),
+        Offer::Nothing => Err(EncodeRefusal::ValueCount { field: i }),
+        Offer::NoKind => Err(EncodeRefusal::WrongKind { field: i }),
         Offer::Value(value) => weighing::weigh_field(f, i, value, lent, size, at),
     }
 }
@@ -161,22 +109,27 @@ fn meet(
 ) -> Weighing
     ensures { result ≡ weighing_at (table_of words.now) offer lent size here pen (look.Meet i e false to) }
 {
-    let at = pen.at;
     let f = tables::field_at(words, i);
-    let content = content_of(offer, f, i, lent, size, at);
-    let bits = size_of(content);
-    let v = Span {
-        field: i,
-        element: e,
-        start: at,
-        bits,
-    };
-    let stroke = stroke_of(content, v);
-    let spot = spot_after(content, to, here);
-    let after = pen_after(words, i, e, pen, content);
-    Weighing {
-        stroked: stroked(stroke, spot, after),
-        content,
+    match content_of(offer, f, i, lent, size, pen.at) {
+        Ok(weighed) => {
+            let bits = size_of(weighed);
+            let v = Span {
+                field: i,
+                element: e,
+                start: pen.at,
+                bits,
+            };
+            let stroke = stroke_of(weighed, v);
+            let after = pen_after(words, i, e, pen, weighed);
+            Weighing {
+                stroked: stroked(Ok(stroke), to, after),
+                content: Ok(weighed),
+            }
+        }
+        Err(refusal) => Weighing {
+            stroked: stroked(Err(refusal), here, pen),
+            content: Err(refusal),
+        },
     }
 }
 
@@ -187,7 +140,7 @@ fn unmet(stroked: Stroked) -> Weighing
     let bits = BitPos(0);
     Weighing {
         stroked,
-        content: Weighed::Gap { bits },
+        content: Ok(Weighed::Gap { bits }),
     }
 }
 
@@ -209,25 +162,24 @@ fn enter(words: &[u64], offer: Offer, k: usize, pen: Pen, here: Spot) -> Stroked
             element: 0,
             offset: 0,
         };
-        return stroked(Stroke::Moved, to, pen);
+        return stroked(Ok(Stroke::Moved), to, pen);
     }
-    let refusal = EncodeRefusal::RepetitionsExceedCapacity {
+    let too_many = EncodeRefusal::RepetitionsExceedCapacity {
         set: k,
         count: n,
         maximum,
     };
-    stroked(Stroke::Refused(refusal), here, pen)
+    stroked(Err(too_many), here, pen)
 }
 
 // At the end: left-over values are 12, with the field count.
-fn end_of(words: &[u64], offer: Offer) -> Stroke
+fn end_of(words: &[u64], offer: Offer) -> Result<Stroke, EncodeRefusal>
     ensures { result ≡ end_by_lem (table_of words.now) offer }
 {
-    let n = tables::field_count(words);
+    let field = tables::field_count(words);
     match offer {
-        Offer::Nothing => Stroke::Ended,
-        Offer::NoKind => Stroke::Refused(EncodeRefusal::ValueCount { field: n }),
-        Offer::Value(_) => Stroke::Refused(EncodeRefusal::ValueCount { field: n }),
+        Offer::Nothing => Ok(Stroke::Ended),
+        Offer::NoKind | Offer::Value(_) => Err(EncodeRefusal::ValueCount { field }),
     }
 }
 
@@ -240,7 +192,7 @@ pub fn weigh_next(words: &[u64], lent: usize, size: usize, draft: Draft, offer: 
     let pen = draft.pen;
     match walking::look_at(words, here) {
         Look::End => unmet(stroked(end_of(words, offer), here, pen)),
-        Look::Pass(to) => unmet(stroked(Stroke::Moved, to, pen)),
+        Look::Pass(to) => unmet(stroked(Ok(Stroke::Moved), to, pen)),
         Look::Enter(k) => unmet(enter(words, offer, k, pen, here)),
         Look::Meet {
             field,
@@ -262,10 +214,9 @@ pub fn write_next(
 ) -> Stroked
     ensures { WritesNext result buffer.new words.now buffer.old lent.now draft offer }
 {
-    let pen = draft.pen;
-    let at = pen.at;
     let next = weigh_next(words, lent.len(), buffer.len(), draft, offer);
-    let content = next.content;
-    put_weighed(buffer, at.0, content, lent);
+    if let Ok(weighed) = next.content {
+        put_weighed(buffer, draft.pen.at.0, weighed, lent);
+    }
     next.stroked
 }

@@ -9,8 +9,8 @@ use Rattle.offers.specs.Records.{values_in}
 use Rattle.writing.proofs.Loops.{Going, heft}
 use Rattle.writing.proofs.encodes.written.Given as goal
 
-abbrev pub invariant-loop-refusal : goal.invariant-loop-refusal
-invariant-loop-refusal l = (check_of (table_of l.words) ≡ Ok tt) × Going (table_of l.words) (values_in l.values) l.lent (length l.initial.buffer) l.draft l.buffer
+abbrev pub invariant-loop : goal.invariant-loop
+invariant-loop l = (check_of (table_of l.words) ≡ Ok tt) × Going (table_of l.words) (values_in l.values) l.lent (length l.initial.buffer) l.draft l.buffer
 
-abbrev pub decreases-loop-refusal : goal.decreases-loop-refusal
-decreases-loop-refusal l = heft (table_of l.words) (values_in l.values) l.lent (length l.initial.buffer) l.draft
+abbrev pub decreases-loop : goal.decreases-loop
+decreases-loop l = heft (table_of l.words) (values_in l.values) l.lent (length l.initial.buffer) l.draft

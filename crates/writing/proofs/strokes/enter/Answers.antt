@@ -1,4 +1,5 @@
 -- By the count.
+use Rattle.std.specs.Prelude.{Err}
 use lib.ListN.{get_or}
 use mathlib.Core.Path.{◌≡◌, ap, ap₂, ◌∙◌, subst}
 use Prim.Native.Nat.{ℕ, ◌≤◌, ◌<◌, min}
@@ -8,7 +9,6 @@ use Rattle.tables.specs.Table.{Table, table_of}
 use Rattle.tables.specs.declared.RepeatingFieldSet.{RepeatingFieldSet}
 use Rattle.walking.specs.Looks.{enter_with}
 use Rattle.writing.specs.declared.Pen.{Pen}
-use Rattle.writing.specs.declared.Stroke.TheVariants.{Refused}
 use Rattle.writing.specs.Encode.{one_of, count_of, too_many}
 use Rattle.writing.specs.Strokes.{stroked_to, shown}
 use Rattle.writing.proofs.Turning.{enters, exceeds}
@@ -37,6 +37,6 @@ returns c =
     let n = c.counter_elements-n.result in
     let e = counted t a.k a.pen c.set_at-set.ensures c.field_at-f.ensures c.counter_at-raw.ensures c.counter_elements-n.ensures in
     c.stroked-2.ensures
-    ∙ ap (λ (g : RepeatingFieldSet). stroked_to (Refused (too_many a.k n g.maximum)) a.here a.pen) c.set_at-set.ensures
+    ∙ ap (λ (g : RepeatingFieldSet). stroked_to (Err (too_many a.k n g.maximum)) a.here a.pen) c.set_at-set.ensures
     ∙ exceeds t a.offer a.here 0 0 a.k n a.pen (subst (λ (g : RepeatingFieldSet). g.maximum < n) c.set_at-set.ensures c.if-n-maximum.false)
     ∙ ap (λ (m : ℕ). shown t a.offer a.here (enter_with t (one_of t (λ (j : ℕ). a.offer) 0 0) (count_of t) too_many a.k m a.pen)) e

@@ -1,5 +1,7 @@
 -- By what is to be done at the spot.
+use Rattle.std.specs.Prelude.{Result}
 use mathlib.Core.Path.{sym, ap, ◌∙◌}
+use Rattle.weighing.specs.declared.EncodeRefusal.{EncodeRefusal}
 use Rattle.tables.specs.Table.{table_of}
 use Rattle.writing.specs.declared.Stroke.{Stroke}
 use Rattle.writing.specs.declared.Stroked.{Stroked}
@@ -10,7 +12,7 @@ use Rattle.writing.proofs.strokes.weigh_next.Goals as goal
 pub returns-in-End : goal.returns-in-End
 returns-in-End c =
     c.unmet.ensures
-    ∙ ap (λ (x : Stroked). weighing_to x nothing) (c.stroked.ensures ∙ ap (λ (k : Stroke). stroked_to k c.args.draft.spot c.args.draft.pen) c.end_of.ensures)
+    ∙ ap (λ (x : Stroked). weighing_to x nothing) (c.stroked.ensures ∙ ap (λ (k : Result Stroke EncodeRefusal). stroked_to k c.args.draft.spot c.args.draft.pen) c.end_of.ensures)
     ∙ look-weighed (table_of c.args.words.now) c.args.offer c.args.draft _ (sym c.in-End.is ∙ c.look_at.ensures) c.args.lent c.args.size
 
 pub returns-in-Pass : goal.returns-in-Pass
