@@ -4,7 +4,7 @@ use mathlib.Core.List.{List, [], ◌∷◌, ◌++◌}
 use Prim.Native.Nat.{ℕ, suc, ◌+◌, ◌-◌, ◌*◌, ◌/◌, ◌≤◌, ◌<◌}
 use native.Mathlib.Omega.{arith}
 use lib.ListN.{length, take, drop, get_or, replicate, length-take, length-drop, length-replicate, replicate-append-replicate}
-use lib.Seq.{take-suc, get_or-drop}
+use lib.Seq.{take-suc}
 use Rattle.bits.specs.Bits.{written}
 use Rattle.bits.specs.Calls.{cursor_at, written_in, written_of}
 use Rattle.bits.specs.declared.Room.{Room}
@@ -36,18 +36,14 @@ unfolding poured
 poured-one s at x = refl
 
 -- one byte more of the text
-pub pour-more : (s : List ℕ) (at : ℕ) (lent : List ℕ) (start j : ℕ) → start + j < length lent
-    → written (poured s at (take j (drop start lent))) (at + 8 * j) 8 (get_or lent (start + j) 0) ≡ poured s at (take (j + 1) (drop start lent))
-pour-more s at lent start j l =
-    let t = drop start lent in
-    let k : j < length t = (let d = length-drop start lent in omega (arith, d, l)) in
+pub pour-more : (s : List ℕ) (at : ℕ) (t : List ℕ) (j : ℕ) → j < length t → written (poured s at (take j t)) (at + 8 * j) 8 (get_or t j 0) ≡ poured s at (take (j + 1) t)
+pour-more s at t j k =
     let m : length (take j t) ≡ j = (let e = length-take j t in omega (arith, e, k)) in
-    let x = get_or lent (start + j) 0 in
+    let x = get_or t j 0 in
     let one : j + 1 ≡ suc j = omega arith in
     poured-one (poured s at (take j t)) (at + 8 * j) x
     ∙ ap (λ (n : ℕ). poured (poured s at (take j t)) (at + 8 * n) (x ∷ [])) (sym m)
     ∙ poured-then s at (take j t) (x ∷ [])
-    ∙ ap (λ (y : ℕ). poured s at (take j t ++ y ∷ [])) (sym (get_or-drop start lent j 0))
     ∙ ap (poured s at) (sym (ap (λ (n : ℕ). take n t) one ∙ take-suc t j 0 k))
 
 pub poured-none : (s : List ℕ) (at : ℕ) (t : List ℕ) → s ≡ poured s at (take 0 t)
@@ -59,25 +55,22 @@ pub text-long : (lent : List ℕ) (start n : ℕ) → start + n ≤ length lent 
 text-long lent start n l = let d = length-drop start lent in let e = length-take n (drop start lent) in omega (arith, d, e, l)
 
 -- length, text, zero
-pub counted-all : (s a b c : List ℕ) (at n : ℕ) (t : List ℕ) → length t ≡ n → a ≡ written s at 8 n → b ≡ poured a (at + 8) t → c ≡ written b (at + 8 + 8 * n) 8 0
+pub counted-all : (s a b c : List ℕ) (at : ℕ) (t : List ℕ) → a ≡ written s at 8 (length t) → b ≡ poured a (at + 8) t → c ≡ written b (at + 8 + 8 * length t) 8 0
     → c ≡ poured s at (length t ∷ (t ++ 0 ∷ []))
 unfolding poured
-counted-all s a b c at n t l ha hb hc =
-    hc ∙ ap (λ (x : List ℕ). written x (at + 8 + 8 * n) 8 0) hb
-    ∙ ap (λ (k : ℕ). written (poured a (at + 8) t) (at + 8 + 8 * k) 8 0) (sym l)
+counted-all s a b c at t ha hb hc =
+    hc ∙ ap (λ (x : List ℕ). written x (at + 8 + 8 * length t) 8 0) hb
     ∙ poured-then a (at + 8) t (0 ∷ [])
     ∙ ap (λ (x : List ℕ). poured x (at + 8) (t ++ 0 ∷ [])) ha
-    ∙ ap (λ (k : ℕ). poured (written s at 8 k) (at + 8) (t ++ 0 ∷ [])) (sym l)
 
 -- length, encoding, text
-pub encoded-all : (s a b c : List ℕ) (at n x : ℕ) (t : List ℕ) → length t ≡ n → a ≡ written s at 8 (n + 2) → b ≡ written a (at + 8) 8 x → c ≡ poured b (at + 16) t
+pub encoded-all : (s a b c : List ℕ) (at x : ℕ) (t : List ℕ) → a ≡ written s at 8 (length t + 2) → b ≡ written a (at + 8) 8 x → c ≡ poured b (at + 16) t
     → c ≡ poured s at ((length t + 2) ∷ x ∷ t)
 unfolding poured
-encoded-all s a b c at n x t l ha hb hc =
+encoded-all s a b c at x t ha hb hc =
     let e : at + 16 ≡ at + 8 + 8 = omega arith in
     hc ∙ ap (λ (k : ℕ). poured b k t) e ∙ ap (λ (y : List ℕ). poured y (at + 8 + 8) t) hb
     ∙ ap (λ (y : List ℕ). poured (written y (at + 8) 8 x) (at + 8 + 8) t) ha
-    ∙ ap (λ (k : ℕ). poured (written (written s at 8 (k + 2)) (at + 8) 8 x) (at + 8 + 8) t) (sym l)
 
 -- ## Bytes of 0xFF
 
@@ -92,10 +85,9 @@ unfolding poured
 filled_none s at = refl
 
 -- a text, then 0xFF
-pub bare-all : (s a b : List ℕ) (at n size : ℕ) (t : List ℕ) → length t ≡ n → a ≡ poured s at t → b ≡ poured a (at + 8 * n) (replicate (size - n) 0xff)
+pub bare-all : (s a b : List ℕ) (at size : ℕ) (t : List ℕ) → a ≡ poured s at t → b ≡ poured a (at + 8 * length t) (replicate (size - length t) 0xff)
     → b ≡ poured s at (t ++ replicate (8 * size / 8 - length t) 0xff)
-bare-all s a b at n size t l ha hb =
+bare-all s a b at size t ha hb =
     let e : 8 * size / 8 ≡ size = omega arith in
-    hb ∙ ap (λ (x : List ℕ). poured x (at + 8 * n) (replicate (size - n) 0xff)) ha
-    ∙ ap (λ (k : ℕ). poured (poured s at t) (at + 8 * k) (replicate (size - k) 0xff)) (sym l)
+    hb ∙ ap (λ (x : List ℕ). poured x (at + 8 * length t) (replicate (size - length t) 0xff)) ha
     ∙ poured-then s at t (replicate (size - length t) 0xff) ∙ ap (λ (k : ℕ). poured s at (t ++ replicate (k - length t) 0xff)) (sym e)

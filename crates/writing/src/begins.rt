@@ -5,7 +5,6 @@ ghost use Rattle.writing.specs.Encode.{begun_of};
 ghost use Rattle.writing.specs.Clauses.{Begins};
 
 use bits::ByteCount;
-use tables::BrokenRule;
 use weighing::EncodeRefusal;
 
 // 7, 8, or nothing.
@@ -17,10 +16,8 @@ fn begun(words: &[u64], size: usize) -> Result<(), EncodeRefusal>
             length: ByteCount(size),
         });
     }
-    match tables::check(words) {
-        Ok(()) => Ok(()),
-        Err(BrokenRule { rule, index }) => Err(EncodeRefusal::TableRefused { rule, index }),
-    }
+    tables::check(words)?;
+    Ok(())
 }
 
 // Refusal 7 or 8, which leave the buffer as it was; else all of its bits are ones.

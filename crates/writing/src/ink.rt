@@ -9,7 +9,7 @@ ghost use Rattle.weighing.specs.Weigh.{weighed_of};
 ghost use Rattle.writing.specs.Clauses.{Puts};
 
 use bits::{BitPos, Cursor};
-use descriptor::{FieldDescriptor, PgnBytes, PgnValue};
+use descriptor::{FieldDescriptor, PgnValue};
 use weighing::{EncodeRefusal, Lead, Weighed};
 
 // Puts a byte at a bit.
@@ -21,15 +21,15 @@ fn put_byte(buffer: &mut [u8], at: usize, x: u8)
     let _ = c.write_u8(buffer, x, 8);
 }
 
-// Puts n bytes of the lent text from a bit on.
-fn pour(buffer: &mut [u8], at: usize, lent: &[u8], start: usize, n: usize)
-    requires { (length buffer.old ≤ payload_max) × ((at + 8 * n ≤ length buffer.old * 8) × (start + n ≤ length lent.now)) }
-    ensures { buffer.new ≡ poured buffer.old at (take n (drop start lent.now)) }
+// Puts bytes one after another from a bit on.
+fn pour(buffer: &mut [u8], at: usize, text: &[u8])
+    requires { (length buffer.old ≤ payload_max) × (at + 8 * length text.now ≤ length buffer.old * 8) }
+    ensures { buffer.new ≡ poured buffer.old at text.now }
 {
-    let mut j = 0;
-    while j < n {
-        put_byte(buffer, at + 8 * j, lent[start + j]);
-        j += 1;
+    let mut to = at;
+    for x in text {
+        put_byte(buffer, to, *x);
+        to += 8;
     }
 }
 
@@ -38,53 +38,52 @@ fn fill(buffer: &mut [u8], at: usize, n: usize)
     requires { (length buffer.old ≤ payload_max) × (at + 8 * n ≤ length buffer.old * 8) }
     ensures { buffer.new ≡ poured buffer.old at (replicate n 0xff) }
 {
-    let mut j = 0;
-    while j < n {
+    for j in 0..n {
         put_byte(buffer, at + 8 * j, 0xff);
-        j += 1;
     }
 }
 
 // A text, and 0xFF up to `size` bytes.
-fn put_bare(buffer: &mut [u8], at: usize, lent: &[u8], start: usize, n: usize, size: usize)
-    requires { (length buffer.old ≤ payload_max) × ((at + 8 * size ≤ length buffer.old * 8) × ((start + n ≤ length lent.now) × (n ≤ size))) }
-    ensures { buffer.new ≡ poured buffer.old at (bytes_by lead.Bare (8 * size) (take n (drop start lent.now))) }
+fn put_bare(buffer: &mut [u8], at: usize, text: &[u8], size: usize)
+    requires { (length buffer.old ≤ payload_max) × ((at + 8 * size ≤ length buffer.old * 8) × (length text.now ≤ size)) }
+    ensures { buffer.new ≡ poured buffer.old at (bytes_by lead.Bare (8 * size) text.now) }
 {
-    pour(buffer, at, lent, start, n);
+    let n = text.len();
+    pour(buffer, at, text);
     fill(buffer, at + 8 * n, size - n);
 }
 
 // Length, text, zero.
-fn put_counted(buffer: &mut [u8], at: usize, lent: &[u8], start: usize, n: usize)
-    requires { (length buffer.old ≤ payload_max) × ((at + 8 * (n + 2) ≤ length buffer.old * 8) × (start + n ≤ length lent.now)) }
-    ensures { buffer.new ≡ poured buffer.old at (bytes_by lead.Counted 0 (take n (drop start lent.now))) }
+fn put_counted(buffer: &mut [u8], at: usize, text: &[u8])
+    requires { (length buffer.old ≤ payload_max) × (at + 8 * (length text.now + 2) ≤ length buffer.old * 8) }
+    ensures { buffer.new ≡ poured buffer.old at (bytes_by lead.Counted 0 text.now) }
 {
+    let n = text.len();
     put_byte(buffer, at, n as u8);
-    pour(buffer, at + 8, lent, start, n);
+    pour(buffer, at + 8, text);
     put_byte(buffer, at + 8 + 8 * n, 0);
 }
 
 // Length, encoding, text.
-fn put_encoded(buffer: &mut [u8], at: usize, x: u8, lent: &[u8], start: usize, n: usize)
-    requires { (length buffer.old ≤ payload_max) × ((at + 8 * (n + 2) ≤ length buffer.old * 8) × (start + n ≤ length lent.now)) }
-    ensures { buffer.new ≡ poured buffer.old at (bytes_by (lead.Encoded x) 0 (take n (drop start lent.now))) }
+fn put_encoded(buffer: &mut [u8], at: usize, x: u8, text: &[u8])
+    requires { (length buffer.old ≤ payload_max) × (at + 8 * (length text.now + 2) ≤ length buffer.old * 8) }
+    ensures { buffer.new ≡ poured buffer.old at (bytes_by (lead.Encoded x) 0 text.now) }
 {
+    let n = text.len();
     put_byte(buffer, at, (n + 2) as u8);
     put_byte(buffer, at + 8, x);
-    pour(buffer, at + 16, lent, start, n);
+    pour(buffer, at + 16, text);
 }
 
 // A text in a field of `size` bytes, with what stands around it.
-fn put_text(buffer: &mut [u8], at: usize, size: usize, lead: Lead, b: PgnBytes, lent: &[u8])
-    requires { (length buffer.old ≤ payload_max) × ((at + 8 * size ≤ length buffer.old * 8) × ((b.start.0 + b.len.0 ≤ length lent.now) × (around lead b.len.0 ≤ size))) }
-    ensures { buffer.new ≡ poured buffer.old at (bytes_by lead (8 * size) (text_in_lem lent.now b)) }
+fn put_text(buffer: &mut [u8], at: usize, size: usize, lead: Lead, text: &[u8])
+    requires { (length buffer.old ≤ payload_max) × ((at + 8 * size ≤ length buffer.old * 8) × (around lead (length text.now) ≤ size)) }
+    ensures { buffer.new ≡ poured buffer.old at (bytes_by lead (8 * size) text.now) }
 {
-    let start = b.start.0;
-    let n = b.len.0;
     match lead {
-        Lead::Bare => put_bare(buffer, at, lent, start, n, size),
-        Lead::Counted => put_counted(buffer, at, lent, start, n),
-        Lead::Encoded(x) => put_encoded(buffer, at, x, lent, start, n),
+        Lead::Bare => put_bare(buffer, at, text, size),
+        Lead::Counted => put_counted(buffer, at, text),
+        Lead::Encoded(x) => put_encoded(buffer, at, x, text),
         Lead::Empty => put_byte(buffer, at, 1),
     }
 }
@@ -98,7 +97,9 @@ pub(crate) fn put_weighed(buffer: &mut [u8], at: usize, weighed: Weighed, lent: 
         Weighed::Number { bits, raw } => put_number(buffer, at, bits.0, raw),
         Weighed::Gap { bits: _ } => {}
         Weighed::Text { bits, lead, text } => {
-            put_text(buffer, at, bits.0 / 8, lead, text, lent);
+            let start = text.start.0;
+            let text = &lent[start..start + text.len.0];
+            put_text(buffer, at, bits.0 / 8, lead, text);
         }
     }
 }
