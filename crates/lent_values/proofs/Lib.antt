@@ -1,4 +1,4 @@
--- the turns of an encode by lent values come to an encode; no memory in it
+-- lent values stand at the places below their count
 pub mod Turns
 -- every contract leaves one answer and one content of each lent buffer
 pub mod OneAnswer

@@ -3,29 +3,49 @@
 // Promise: `encode` takes whatever it is given and answers as `encode` of the crate `writing` does,
 // whose values are records in bytes: specs/Run.antt says what a lent run of values offers, and the rest
 // is specs/Encode.antt there. The buffer at exit is that of specs/Encode.antt too. It has no `requires`.
-//
-// `encode` alone touches the lent values, one at a time; `steps` has the walk, turn by turn.
 #![tactic(auto)]
 
-ghost use Rattle.lent_values.specs.Clauses.{Encodes};
+ghost use Rattle.std.specs.Prelude.{◌≡◌, length, replicate};
+ghost use Rattle.tables.specs.Table.{table_of};
+ghost use Rattle.tables.specs.Check.{check_of};
+ghost use Rattle.lent_values.specs.Run.{offered_at};
+ghost use Rattle.lent_values.specs.Clauses.{Writes, Encodes};
 
 use bits::ByteCount;
 use descriptor::PgnValue;
+use offers::Offer;
 use weighing::EncodeRefusal;
-use writing::Draft;
+use writing::Stroke;
 
-mod steps;
+// What stands at place j among the values: nothing past the last one.
+fn offer_at(values: &[PgnValue], j: usize) -> Offer
+    ensures { result ≡ offered_at values.now j }
+{
+    match values.get(j) {
+        Some(value) => Offer::Value(*value),
+        None => Offer::Nothing,
+    }
+}
 
-// A walk between two turns: whether the next value is wanted, and its place; whether the walk is over,
-// and then its answer; whether it has not begun.
-#[derive(Clone, Copy)]
-pub(crate) struct Step {
-    wants: bool,
-    over: bool,
-    fresh: bool,
-    place: usize,
-    draft: Draft,
-    encoded: Result<ByteCount, EncodeRefusal>,
+// The walk, by an accepted table, through a buffer of ones.
+fn written(
+    words: &[u64],
+    values: &[PgnValue],
+    lent: &[u8],
+    buffer: &mut [u8],
+) -> Result<ByteCount, EncodeRefusal>
+    requires { (check_of (table_of words.now) ≡ Ok tt) × (buffer.old ≡ replicate (length buffer.old) 0xff) }
+    ensures { Writes result buffer.new words.now values.now lent.now buffer.old }
+{
+    let mut draft = writing::start();
+    loop {
+        let offer = offer_at(values, draft.pen.used);
+        let next = writing::write_next(words, buffer, lent, draft, offer);
+        draft = next.draft;
+        if let Stroke::Ended = next.stroke? {
+            return Ok(writing::bytes_used(draft.pen.at));
+        }
+    }
 }
 
 // Values by a table into a buffer: the bytes used, or the refusal. The texts of the values stand in the
@@ -38,16 +58,6 @@ pub fn encode(
 ) -> Result<ByteCount, EncodeRefusal>
     ensures { Encodes result buffer.new words.now values.now lent.now buffer.old }
 {
-    let mut c = steps::fresh();
-    let mut v = PgnValue::U8(0);
-    loop {
-        c = steps::step(words, lent, buffer, c, v, values.len());
-        if c.wants {
-            v = values[c.place];
-        } else {
-            if c.over {
-                return c.encoded;
-            }
-        }
-    }
+    writing::begin(words, buffer)?;
+    written(words, values, lent, buffer)
 }
