@@ -12,10 +12,10 @@ use Rattle.bits.specs.declared.ReadSlice.TheVariants as slice
 use lib.IntN.{pos, negsuc}
 use lib.Ieee.{fin, binary32, binary64, of_int, round, units, odd, size, span, climb, of_bits, of_fields, div, add, sub, sum, le, lt, eq}
 use mathlib.Core.Bool.{Bool, true, false}
-use Rattle.std.specs.Prelude.{Ok, Err, Some, None, Result}
+use Rattle.std.specs.Prelude.{Ok, Err, Some, None, Result, Option}
 use Rattle.rounding.specs.Truncation.{half_away_of}
-use Rattle.numbers.specs.declared.Quantized.{Quantized}
-use Rattle.numbers.specs.declared.Quantized.TheVariants.{Raw, OutOfRange}
+use Rattle.numbers.specs.declared.NumberRefusal.{NumberRefusal}
+use Rattle.numbers.specs.declared.NumberRefusal.TheVariants.{OutOfRange}
 use Rattle.numbers.specs.Signs.{sign_extend_of}
 use Rattle.numbers.specs.Quantizing.{quantize_of}
 use Rattle.numbers.specs.Special.{elements_of}
@@ -24,8 +24,6 @@ use Rattle.descriptor.specs.declared.FieldKind.{FieldKind}
 use Rattle.descriptor.specs.declared.FieldKind.TheVariants.{StringLau, StringLz}
 use Rattle.descriptor.specs.declared.FieldDescriptor.{FieldDescriptor}
 use Rattle.descriptor.specs.declared.Resolution.TheVariants.{Unscaled}
-use Rattle.descriptor.specs.declared.Encoding.{Encoding}
-use Rattle.descriptor.specs.declared.Encoding.TheVariants as encoding
 use Rattle.descriptor.specs.declared.Availability.TheVariants.{Available, NotAvailable}
 use Rattle.descriptor.specs.declared.PgnValue.TheVariants.{U16}
 use Rattle.tables.specs.Table.{Table, table_of}
@@ -91,25 +89,25 @@ unfolding of_int round units odd size span climb
 to-f32-up = refl
 
 -- the value with these bits, quantized at resolution 1
-by_one : ℕ → ℕ → Bool → Quantized
+by_one : ℕ → ℕ → Bool → Result ℕ NumberRefusal
 by_one value n signed = quantize_of (of_bits binary64 value) (fin false 1 (pos 0)) n signed
 
 -- "Resolution 1, unsigned 8: 255.4 gives 255, 255.5 refused, −0.4 gives 0, −0.5 refused"
 unsigned-8 :
-    (by_one 0x406feccccccccccd 8 false ≡ Raw 255)
-    × (by_one 0x406ff00000000000 8 false ≡ OutOfRange)
-    × (by_one 0xbfd999999999999a 8 false ≡ Raw 0)
-    × (by_one 0xbfe0000000000000 8 false ≡ OutOfRange)
+    (by_one 0x406feccccccccccd 8 false ≡ Ok 255)
+    × (by_one 0x406ff00000000000 8 false ≡ Err OutOfRange)
+    × (by_one 0xbfd999999999999a 8 false ≡ Ok 0)
+    × (by_one 0xbfe0000000000000 8 false ≡ Err OutOfRange)
 unfolding by_one of_bits of_fields odd div round units size span climb half_away_of add sub sum le lt eq
 unsigned-8 = (refl, refl, refl, refl)
 
 -- "Signed 8: −128.4 gives −128, −128.5 refused": the raw 128 means −128
-signed-8 : (by_one 0xc0600ccccccccccd 8 true ≡ Raw 128) × (sign_extend_of 128 8 ≡ negsuc 127) × (by_one 0xc060100000000000 8 true ≡ OutOfRange)
+signed-8 : (by_one 0xc0600ccccccccccd 8 true ≡ Ok 128) × (sign_extend_of 128 8 ≡ negsuc 127) × (by_one 0xc060100000000000 8 true ≡ Err OutOfRange)
 unfolding by_one of_bits of_fields odd div round units size span climb half_away_of add sub sum le lt eq
 signed-8 = (refl, refl, refl)
 
 -- "Unsigned 64: −2,048 gives 0, −2,049 refused"
-unsigned-64 : (by_one 0xc0a0000000000000 64 false ≡ Raw 0) × (by_one 0xc0a0020000000000 64 false ≡ OutOfRange)
+unsigned-64 : (by_one 0xc0a0000000000000 64 false ≡ Ok 0) × (by_one 0xc0a0020000000000 64 false ≡ Err OutOfRange)
 unfolding by_one of_bits of_fields odd div round units size span climb half_away_of add sub sum le lt eq
 unsigned-64 = (refl, refl)
 
@@ -136,22 +134,22 @@ abbrev read : FieldKind → List ℕ → Result FieldRead DecodeRefusal
 read kind payload = field_read_of (payload_of payload) (text kind) 0 true 0
 
 -- n bits, of which so many bytes from byte `place` on are text
-abbrev text_of : ℕ → ℕ → ℕ → Encoding → Result FieldRead DecodeRefusal
+abbrev text_of : ℕ → ℕ → ℕ → Option ℕ → Result FieldRead DecodeRefusal
 text_of n place len enc = Ok (Got (bits n) None (text_at_lem place len enc))
 
 -- "LAU 0 or 1: 8 bits; 2: 16 bits, not available"
 lau :
-    (read StringLau (0 ∷ []) ≡ text_of 8 0 0 encoding.Absent)
-    × (read StringLau (1 ∷ []) ≡ text_of 8 0 0 encoding.Absent)
-    × (read StringLau (2 ∷ 1 ∷ []) ≡ text_of 16 0 0 (encoding.Byte 1))
-    × (availability_of (payload_of (2 ∷ 1 ∷ [])) (text StringLau) None (text_at_lem 0 0 (encoding.Byte 1)) ≡ NotAvailable)
+    (read StringLau (0 ∷ []) ≡ text_of 8 0 0 None)
+    × (read StringLau (1 ∷ []) ≡ text_of 8 0 0 None)
+    × (read StringLau (2 ∷ 1 ∷ []) ≡ text_of 16 0 0 (Some 1))
+    × (availability_of (payload_of (2 ∷ 1 ∷ [])) (text StringLau) None (text_at_lem 0 0 (Some 1)) ≡ NotAvailable)
 unfolding sum_bits
 lau = (refl, refl, refl, refl)
 
 -- "LZ 02 41 42 00: 32 bits; 02 41 42 07: 24"
 lz :
-    (read StringLz (0x02 ∷ 0x41 ∷ 0x42 ∷ 0x00 ∷ []) ≡ text_of 32 1 2 encoding.Absent)
-    × (read StringLz (0x02 ∷ 0x41 ∷ 0x42 ∷ 0x07 ∷ []) ≡ text_of 24 1 2 encoding.Absent)
+    (read StringLz (0x02 ∷ 0x41 ∷ 0x42 ∷ 0x00 ∷ []) ≡ text_of 32 1 2 None)
+    × (read StringLz (0x02 ∷ 0x41 ∷ 0x42 ∷ 0x07 ∷ []) ≡ text_of 24 1 2 None)
 unfolding sum_bits
 lz = (refl, refl)
 
@@ -216,7 +214,7 @@ refusal-lines = (refl, refl, refl, refl, refl, refl, refl, refl, refl)
 reading-lines :
     (reading_line (record { field = 17; element = At 1; start = bits 376; bits = bits 16; raw = Some 0xFFFF; value = U16 0xFFFF; availability = NotAvailable })
     ≡ 82 ∷ 32 ∷ 49 ∷ 55 ∷ 32 ∷ 49 ∷ 32 ∷ 51 ∷ 55 ∷ 54 ∷ 32 ∷ 49 ∷ 54 ∷ 32 ∷ 78 ∷ 32 ∷ 70 ∷ 70 ∷ 70 ∷ 70 ∷ 10 ∷ [])
-    × (reading_line (record { field = 2; element = Outside; start = bits 8; bits = bits 32; raw = None; value = text_at_lem 2 12 encoding.Absent; availability = Available })
+    × (reading_line (record { field = 2; element = Outside; start = bits 8; bits = bits 32; raw = None; value = text_at_lem 2 12 None; availability = Available })
     ≡ 82 ∷ 32 ∷ 50 ∷ 32 ∷ 45 ∷ 32 ∷ 56 ∷ 32 ∷ 51 ∷ 50 ∷ 32 ∷ 65 ∷ 32 ∷ 50 ∷ 58 ∷ 49 ∷ 50 ∷ 10 ∷ [])
 unfolding reading_line higher
 reading-lines = (refl, refl)

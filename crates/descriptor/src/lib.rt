@@ -54,19 +54,13 @@ pub struct FieldDescriptor {
     pub resolution: Resolution,
 }
 
-// The encoding byte that a StringLau carries, where it was read or is to be written.
-#[derive(Clone, Copy)]
-pub enum Encoding {
-    Absent,
-    Byte(u8),
-}
-
-// Text or bytes by their place: `len` bytes after the first `start`.
+// Text or bytes by their place: `len` bytes after the first `start`. `encoding` is the encoding byte
+// that a StringLau carries, where it was read or is to be written.
 #[derive(Clone, Copy)]
 pub struct PgnBytes {
     pub start: ByteCount,
     pub len: ByteCount,
-    pub encoding: Encoding,
+    pub encoding: Option<u8>,
 }
 
 // A value that was read or is to be written.

@@ -8,7 +8,6 @@ use Rattle.std.specs.Prelude.{Ok}
 use Rattle.bits.specs.Bits.{pick}
 use Rattle.descriptor.specs.declared.FieldKind.{FieldKind}
 use Rattle.descriptor.specs.declared.FieldKind.TheVariants as kind
-use Rattle.numbers.specs.declared.Holds.TheVariants as holds
 use Rattle.numbers.specs.Holds.{is_numeric_lem, holds_of}
 use Rattle.numbers.proofs.Numeric as numbers
 use Rattle.tables.specs.Table.{Table}
@@ -53,7 +52,7 @@ in-bits Whole h = h
 in-bits Lau h = h
 in-bits Lz h = h
 
-pub holds-number : (t : Table) → check_of t ≡ Ok tt → (i : ℕ) → i < t.count → is_number (shape_of (t.field i)) ≡ true → holds_of (t.field i) ≡ holds.Number
+pub holds-number : (t : Table) → check_of t ≡ Ok tt → (i : ℕ) → i < t.count → is_number (shape_of (t.field i)) ≡ true → holds_of (t.field i) ≡ Ok tt
 holds-number t ok i l s =
     let f = t.field i in
     let w = bits-width f.kind f.width (in-bits (shape_of f) s) (widths t ok i l) in

@@ -18,7 +18,6 @@ use Rattle.bits.specs.declared.Moved.{Moved}
 use Rattle.bits.specs.declared.Moved.TheVariants as moved
 use Rattle.bits.specs.declared.ReadU8.{ReadU8}
 use Rattle.bits.specs.declared.ReadU8.TheVariants as read8
-use Rattle.descriptor.specs.declared.Encoding.TheVariants as encoding
 use Rattle.descriptor.specs.declared.FieldDescriptor.{FieldDescriptor}
 use Rattle.numbers.specs.Scaling.{scale_of}
 use Rattle.tables.specs.Check.{payload_max}
@@ -37,13 +36,13 @@ eighth n = omega arith
 
 -- a StringFix, and a Binary of whole bytes
 pub fixed-text : (r : Room) (f : FieldDescriptor) (p : Payload) (i at n : ℕ)
-    → text_read_lem r i (8 * n) (at / 8) n encoding.Absent ≡ read_over (if_room_lem r i (Ok (8 * n))) shape.Fixed f p at
-fixed-text room.Fits f p i at n = ap (λ (k : ℕ). Ok (read.Got (bits (8 * n)) None (text_at_lem (at / 8) k encoding.Absent))) (sym (eighth n))
+    → text_read_lem r i (8 * n) (at / 8) n None ≡ read_over (if_room_lem r i (Ok (8 * n))) shape.Fixed f p at
+fixed-text room.Fits f p i at n = ap (λ (k : ℕ). Ok (read.Got (bits (8 * n)) None (text_at_lem (at / 8) k None))) (sym (eighth n))
 fixed-text (room.Refused e) f p i at n = refl
 
 pub whole-text : (r : Room) (f : FieldDescriptor) (p : Payload) (i at n : ℕ)
-    → text_read_lem r i (8 * n) (at / 8) n encoding.Absent ≡ read_over (if_room_lem r i (Ok (8 * n))) shape.Whole f p at
-whole-text room.Fits f p i at n = ap (λ (k : ℕ). Ok (read.Got (bits (8 * n)) None (text_at_lem (at / 8) k encoding.Absent))) (sym (eighth n))
+    → text_read_lem r i (8 * n) (at / 8) n None ≡ read_over (if_room_lem r i (Ok (8 * n))) shape.Whole f p at
+whole-text room.Fits f p i at n = ap (λ (k : ℕ). Ok (read.Got (bits (8 * n)) None (text_at_lem (at / 8) k None))) (sym (eighth n))
 whole-text (room.Refused e) f p i at n = refl
 
 -- a StringFix takes at most its size
@@ -92,20 +91,20 @@ module _ (f : FieldDescriptor) (s : List ℕ) (i at len : ℕ) where
   lau-more : 2 ≤ len → rest ≡ pick (ltb len 2) (Ok 8) rest
   lau-more l = ap (λ (b : Bool). pick b (Ok 8) rest) (sym (le-ltb len 2 l))
 
-  pub lau-empty : len ≤ payload_max → len < 2 → text_read_lem room.Fits i 8 0 0 encoding.Absent ≡ read_over (lau_taken p i at len) shape.Lau f p at
+  pub lau-empty : len ≤ payload_max → len < 2 → text_read_lem room.Fits i 8 0 0 None ≡ read_over (lau_taken p i at len) shape.Lau f p at
   lau-empty l m = ap (λ (t : Result ℕ DecodeRefusal). read_over t shape.Lau f p at) (lau-none m ∙ short-enough i len _ l)
 
   -- the encoding byte as it was read
   abbrev pub lau_says : ReadU8 → Result FieldRead DecodeRefusal
-  lau_says (read8.Got v d) = text_read_lem (text_room_lem p (at + 16) (len - 2)) i (16 + 8 * (len - 2)) (at / 8 + 2) (len - 2) (encoding.Byte v)
+  lau_says (read8.Got v d) = text_read_lem (text_room_lem p (at + 16) (len - 2)) i (16 + 8 * (len - 2)) (at / 8 + 2) (len - 2) (Some v)
   lau_says (read8.Refused e) = refused_of i e
 
-  text_in : (r : Room) → text_read_lem r i (16 + 8 * (len - 2)) (at / 8 + 2) (len - 2) (encoding.Byte (p.bits (at + 8) 8))
+  text_in : (r : Room) → text_read_lem r i (16 + 8 * (len - 2)) (at / 8 + 2) (len - 2) (Some (p.bits (at + 8) 8))
       ≡ read_over (if_room_lem r i (Ok (16 + 8 * (len - 2)))) shape.Lau f p at
   text_in room.Fits =
       let k : len - 2 ≡ (16 + 8 * (len - 2)) / 8 - 2 = omega arith in
       let b : ltb (16 + 8 * (len - 2)) 16 ≡ false = le-ltb (16 + 8 * (len - 2)) 16 (omega arith) in
-      ap₂ (λ (x : ℕ) (y : Bool). Ok (read.Got (bits (16 + 8 * (len - 2))) None (text_at_lem (at / 8 + 2) x (pick y encoding.Absent (encoding.Byte (p.bits (at + 8) 8)))))) k (sym b)
+      ap₂ (λ (x : ℕ) (y : Bool). Ok (read.Got (bits (16 + 8 * (len - 2))) None (text_at_lem (at / 8 + 2) x (pick y None (Some (p.bits (at + 8) 8)))))) k (sym b)
   text_in (room.Refused e) = refl
 
   lau-says : (r : Room) → lau_says (as8 (read_in r s (cursor_at (at + 8)) 8))
@@ -131,12 +130,12 @@ module _ (f : FieldDescriptor) (s : List ℕ) (i at : ℕ) (sh : Shape) (after :
 -- ## StringLz
 
 lz-in : (r : Room) (f : FieldDescriptor) (p : Payload) (i at len n : ℕ) → len ≡ p.bits at 8
-    → text_read_lem r i n (at / 8 + 1) len encoding.Absent ≡ read_over (if_room_lem r i (Ok n)) shape.Lz f p at
-lz-in room.Fits f p i at len n h = ap (λ (x : ℕ). Ok (read.Got (bits n) None (text_at_lem (at / 8 + 1) x encoding.Absent))) h
+    → text_read_lem r i n (at / 8 + 1) len None ≡ read_over (if_room_lem r i (Ok n)) shape.Lz f p at
+lz-in room.Fits f p i at len n h = ap (λ (x : ℕ). Ok (read.Got (bits n) None (text_at_lem (at / 8 + 1) x None))) h
 lz-in (room.Refused e) f p i at len n h = refl
 
 pub lz-text : (f : FieldDescriptor) (p : Payload) (i at len : ℕ) → len ≤ payload_max → len ≡ p.bits at 8
-    → text_read_lem (text_room_lem p (at + 8) len) i (closed_at_lem p at (8 + 8 * len)) (at / 8 + 1) len encoding.Absent ≡ read_over (lz_taken p i at len) shape.Lz f p at
+    → text_read_lem (text_room_lem p (at + 8) len) i (closed_at_lem p at (8 + 8 * len)) (at / 8 + 1) len None ≡ read_over (lz_taken p i at len) shape.Lz f p at
 lz-text f p i at len l h =
     lz-in (text_room_lem p (at + 8) len) f p i at len (closed_at_lem p at (8 + 8 * len)) h ∙ ap (λ (t : Result ℕ DecodeRefusal). read_over t shape.Lz f p at) (short-enough i len _ l)
 

@@ -9,8 +9,6 @@ use Rattle.descriptor.specs.declared.FieldDescriptor.{FieldDescriptor}
 use Rattle.descriptor.specs.declared.PgnBytes.{PgnBytes}
 use Rattle.descriptor.specs.declared.PgnValue.{PgnValue}
 use Rattle.descriptor.specs.declared.PgnValue.TheVariants.{U64, U32, U16, U8, I64, I32, I16, I8, F64, F32, Bytes}
-use Rattle.descriptor.specs.declared.Encoding.{Encoding}
-use Rattle.descriptor.specs.declared.Encoding.TheVariants as encoding
 use Rattle.descriptor.specs.declared.Availability.{Availability}
 use Rattle.descriptor.specs.declared.Availability.TheVariants.{Available, NotAvailable}
 use Rattle.numbers.specs.Scaling.{scale_of}
@@ -26,12 +24,12 @@ use Rattle.fields.specs.Shapes.{shape_of}
 use Rattle.fields.specs.Taken.{taken_of}
 
 -- "its byte place in the working payload (0 if empty) and its length"
-abbrev pub text_at_lem : ℕ → ℕ → Encoding → PgnValue
+abbrev pub text_at_lem : ℕ → ℕ → Option ℕ → PgnValue
 text_at_lem place n enc = Bytes (record { start = bytes (pick (eqb n 0) 0 place); len = bytes n; encoding = enc })
 
 -- "an encoding byte, if read, is kept": of a StringLau that takes n bits from `at` on
-abbrev pub encoding_in_lem : Payload → ℕ → ℕ → Encoding
-encoding_in_lem p at n = pick (ltb n 16) encoding.Absent (encoding.Byte (p.bits (at + 8) 8))
+abbrev pub encoding_in_lem : Payload → ℕ → ℕ → Option ℕ
+encoding_in_lem p at n = pick (ltb n 16) None (Some (p.bits (at + 8) 8))
 
 -- "raw (or none)": of the n bits from `at` on
 abbrev pub raw_in : Shape → Payload → ℕ → ℕ → Option ℕ
@@ -45,11 +43,11 @@ raw_in Lz p at n = None
 -- "value"; a skipped field has none, and what stands here for it is never looked at
 abbrev pub value_in : Shape → FieldDescriptor → Payload → ℕ → ℕ → PgnValue
 value_in (Number strict) f p at n = scale_of f (p.bits at n)
-value_in Gap f p at n = text_at_lem 0 0 encoding.Absent
-value_in Fixed f p at n = text_at_lem (at / 8) (n / 8) encoding.Absent
-value_in Whole f p at n = text_at_lem (at / 8) (n / 8) encoding.Absent
+value_in Gap f p at n = text_at_lem 0 0 None
+value_in Fixed f p at n = text_at_lem (at / 8) (n / 8) None
+value_in Whole f p at n = text_at_lem (at / 8) (n / 8) None
 value_in Lau f p at n = text_at_lem (at / 8 + 2) (n / 8 - 2) (encoding_in_lem p at n)
-value_in Lz f p at n = text_at_lem (at / 8 + 1) (p.bits at 8) encoding.Absent
+value_in Lz f p at n = text_at_lem (at / 8 + 1) (p.bits at 8) None
 
 -- "0xFF, 0x40 or 0x00", which end a StringFix
 abbrev pub ends : ℕ → Bool
@@ -105,7 +103,7 @@ refused_of i e = Err (BitReaderError i e)
 
 -- n bytes at a place, of a field that takes so many bits, if there is room for them: what the code goes by; proofs/Spelled.antt ties it
 -- to the definitions below
-abbrev pub text_read_lem : Room → ℕ → ℕ → ℕ → ℕ → Encoding → Result FieldRead DecodeRefusal
+abbrev pub text_read_lem : Room → ℕ → ℕ → ℕ → ℕ → Option ℕ → Result FieldRead DecodeRefusal
 text_read_lem room.Fits i taken place n enc = Ok (Got (bits taken) None (text_at_lem place n enc))
 text_read_lem (room.Refused e) i taken place n enc = refused_of i e
 

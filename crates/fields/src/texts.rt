@@ -8,7 +8,7 @@ ghost use Rattle.fields.specs.declared.Shape.TheVariants as shape;
 
 use crate::{DecodeRefusal, FieldRead};
 use bits::{BitPos, ByteCount, Cursor, ReadSlice, ReadU64, Room, least};
-use descriptor::{Encoding, FieldDescriptor, PgnBytes, PgnValue};
+use descriptor::{FieldDescriptor, PgnBytes, PgnValue};
 
 // A StringFix over so many bytes may stop early where it is the last field.
 const FIXED_MAX: usize = 32;
@@ -35,7 +35,7 @@ fn text_room(s: &[u8], at: usize, n: usize) -> Room
 }
 
 // A text or bytes at a byte place: 0 if there are none.
-fn text_at(place: usize, n: usize, encoding: Encoding) -> PgnValue
+fn text_at(place: usize, n: usize, encoding: Option<u8>) -> PgnValue
     ensures { result ≡ text_at_lem place n encoding }
 {
     if n == 0 {
@@ -59,7 +59,7 @@ fn text_read(
     taken: usize,
     place: usize,
     n: usize,
-    encoding: Encoding,
+    encoding: Option<u8>,
 ) -> Result<FieldRead, DecodeRefusal>
     ensures { result ≡ text_read_lem room i taken place n encoding }
 {
@@ -110,7 +110,7 @@ pub(crate) fn fixed(
     let w = f.width as usize;
     let n = fixed_bytes(s, early, at, w);
     let room = bytes_room(s, at, n);
-    text_read(room, i, 8 * n, at / 8, n, Encoding::Absent)
+    text_read(room, i, 8 * n, at / 8, n, None)
 }
 
 pub(crate) fn whole(
@@ -125,7 +125,7 @@ pub(crate) fn whole(
     let w = f.width as usize;
     let n = w / 8;
     let room = bytes_room(s, at, n);
-    text_read(room, i, 8 * n, at / 8, n, Encoding::Absent)
+    text_read(room, i, 8 * n, at / 8, n, None)
 }
 
 // A StringLau with its length byte.
@@ -143,14 +143,14 @@ fn lau_text(
         return Err(DecodeRefusal::InvalidDataLength { field: i });
     }
     if len < 2 {
-        return text_read(Room::Fits, i, 8, 0, 0, Encoding::Absent);
+        return text_read(Room::Fits, i, 8, 0, 0, None);
     }
     let c = Cursor { at: BitPos(at + 8) };
     match c.read_u8(s, 8) {
         bits::ReadU8::Got { value, next: _ } => {
             let n = len - 2;
             let room = text_room(s, at + 16, n);
-            text_read(room, i, 16 + 8 * n, at / 8 + 2, n, Encoding::Byte(value))
+            text_read(room, i, 16 + 8 * n, at / 8 + 2, n, Some(value))
         }
         bits::ReadU8::Refused(e) => refused(i, e),
     }
@@ -205,7 +205,7 @@ fn lz_text(
     }
     let room = text_room(s, at + 8, len);
     let taken = closed_at(s, at, 8 + 8 * len);
-    text_read(room, i, taken, at / 8 + 1, len, Encoding::Absent)
+    text_read(room, i, taken, at / 8 + 1, len, None)
 }
 
 pub(crate) fn lz(

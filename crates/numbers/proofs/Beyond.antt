@@ -12,11 +12,12 @@ use lib.Pow.{pow_mono, pow-add}
 use lib.Ieee.{Float, nan, inf, fin, binary64, up, down, fits, eq, level, of_bits}
 use lib.Ieee.Fits.{and_l, and_r, down_pos}
 use borrow.Author.Tests.{ltb-false, lt-leb, eqb-true, eq-eqb}
+use Rattle.std.specs.Prelude.{None, Result, Ok, Err}
 use Rattle.bits.specs.Bits.{pick}
 use Rattle.bits.proofs.Written.{below}
-use Rattle.rounding.specs.Truncation.{truncated_of, below64}
-use Rattle.rounding.specs.declared.Whole.TheVariants.{TooBig, Fits}
-use Rattle.numbers.specs.declared.Quantized.TheVariants.{Raw, OutOfRange}
+use Rattle.rounding.specs.Truncation.{cut_to, truncated_of, below64}
+use Rattle.numbers.specs.declared.NumberRefusal.{NumberRefusal}
+use Rattle.numbers.specs.declared.NumberRefusal.TheVariants.{OutOfRange}
 use Rattle.numbers.specs.Quantizing.{limit_of_lem, nearly_of, cut_of}
 
 -- the code's 2^64
@@ -58,12 +59,12 @@ far m (pos k) h g = subst (λ (x : ℕ). (m * 2 ^ k ≡ 2 ^ 64) ⊎ (2 ^ 64 + 40
 
 -- ---- beyond every limit
 
-none : (b : Bool) → pick b OutOfRange OutOfRange ≡ OutOfRange
+none : (b : Bool) → pick {A = Result ℕ NumberRefusal} b (Err OutOfRange) (Err OutOfRange) ≡ Err OutOfRange
 none true = refl
 none false = refl
 
 -- a magnitude beyond the limit and what lies near it
-pub refused : (n : ℕ) (signed negative : Bool) (m : ℕ) → limit_of_lem n signed negative + 2 ^ (n - 53) < m → nearly_of n signed negative m ≡ OutOfRange
+pub refused : (n : ℕ) (signed negative : Bool) (m : ℕ) → limit_of_lem n signed negative + 2 ^ (n - 53) < m → nearly_of n signed negative m ≡ Err OutOfRange
 refused n signed negative m h =
     let limit = limit_of_lem n signed negative in
     let l : limit < m = omega arith in
@@ -114,18 +115,18 @@ edge-cut n signed (fin s m e) h =
 
 module _ (n : ℕ) (h : n ≤ 64) (y : Float) where
   -- 2^64 in a signed field
-  pub edge-signed : eq y (fin false 1 (pos 64)) ≡ true → OutOfRange ≡ cut_of n true y
+  pub edge-signed : eq y (fin false 1 (pos 64)) ≡ true → Err OutOfRange ≡ cut_of n true y
   edge-signed e = sym (edge-cut n true y e ∙ refused n true false (2 ^ 64) (signed-small n false h))
 
   -- 2^64 in an unsigned one of 64 bits, and of fewer
-  pub edge-last : n ≡ 64 → eq y (fin false 1 (pos 64)) ≡ true → Raw 0xffff_ffff_ffff_ffff ≡ cut_of n false y
+  pub edge-last : n ≡ 64 → eq y (fin false 1 (pos 64)) ≡ true → Ok 0xffff_ffff_ffff_ffff ≡ cut_of n false y
   edge-last w e = sym (edge-cut n false y e ∙ ap (λ (k : ℕ). nearly_of k false false (2 ^ 64)) w)
 
-  pub edge-narrow : (n ≡ 64 → ⊥) → eq y (fin false 1 (pos 64)) ≡ true → OutOfRange ≡ cut_of n false y
+  pub edge-narrow : (n ≡ 64 → ⊥) → eq y (fin false 1 (pos 64)) ≡ true → Err OutOfRange ≡ cut_of n false y
   edge-narrow w e = sym (edge-cut n false y e ∙ refused n false false (2 ^ 64) (narrow-small n (omega arith)))
 
 -- what is cut to 2^64 or more
-large : (b s : Bool) (m : ℕ) → ltb m (2 ^ 64) ≡ b → below64 b (Fits s m) ≡ TooBig → 2 ^ 64 ≤ m
+large : (b s : Bool) (m : ℕ) → ltb m (2 ^ 64) ≡ b → below64 b (cut_to s m) ≡ None → 2 ^ 64 ≤ m
 large true s m e h = let z : ◌≡◌ {A = ℕ} 0 1 = cc in absurd (omega arith)
 large false s m e h = ltb-false m (2 ^ 64) e
 
@@ -143,7 +144,7 @@ unsigned-beyond n m e h d g no_edge = ⊎_elim
     (below n 64)
 
 other-fin : (n : ℕ) (signed s : Bool) (m : ℕ) (e : ℤ) → n ≤ 64 → m < 2 ^ 53 → 2 ^ 64 ≤ m * up e / down e → eq (fin s m e) (fin false 1 (pos 64)) ≡ false
-    → nearly_of n signed s (m * up e / down e) ≡ OutOfRange
+    → nearly_of n signed s (m * up e / down e) ≡ Err OutOfRange
 unfolding eq
 other-fin n true s m e h d g f = refused n true s _ (lt_of_lt_of_le (signed-small n s h) g)
 other-fin n false true m e h d g f = refused n false true _ (lt_of_lt_of_le (below-small n h) g)
@@ -152,7 +153,7 @@ other-fin n false false m e h d g f =
     true≢false (sym (ap (λ (b : Bool). b && true) (eq-eqb (m * up e * 1) (2 ^ 64 * down e) (mul-one (m * up e) ∙ q))) ∙ f)))
 
 -- any other float whose whole part does not fit 64 bits
-pub other : (n : ℕ) (signed : Bool) (y : Float) → n ≤ 64 → T (fits binary64 y) → truncated_of y ≡ TooBig → eq y (fin false 1 (pos 64)) ≡ false → OutOfRange ≡ cut_of n signed y
+pub other : (n : ℕ) (signed : Bool) (y : Float) → n ≤ 64 → T (fits binary64 y) → truncated_of y ≡ None → eq y (fin false 1 (pos 64)) ≡ false → Err OutOfRange ≡ cut_of n signed y
 unfolding truncated_of
 other n signed nan h t k f = refl
 other n signed (inf s) h t k f = refl

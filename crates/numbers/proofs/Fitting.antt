@@ -4,6 +4,7 @@ use mathlib.Core.Bool.{Bool, true, false}
 use Prim.Native.Nat.{ℕ, suc, ◌+◌, ◌-◌, ◌*◌, ◌/◌, ◌^◌, ◌≤◌, ◌<◌, min}
 use native.Mathlib.Nat.{mod-lt, lt_of_lt_of_le}
 use native.Mathlib.Omega.{arith}
+use Rattle.std.specs.Prelude.{Option, Some, None, Result, Ok, Err}
 use lib.Dec.{leb, ltb}
 use lib.IntN.{ℤ, pos, negsuc}
 use lib.Pow.{pow_pos, pow_mono}
@@ -17,16 +18,8 @@ use Rattle.descriptor.specs.declared.Resolution.{Resolution}
 use Rattle.descriptor.specs.declared.Resolution.TheVariants.{Unscaled, Single, Double}
 use Rattle.descriptor.specs.declared.PgnValue.{PgnValue}
 use Rattle.descriptor.specs.declared.PgnValue.TheVariants.{U64, U32, U16, U8, I64, I32, I16, I8, F64, F32, Bytes}
-use Rattle.numbers.specs.declared.AsF64.{AsF64}
-use Rattle.numbers.specs.declared.AsF64.TheVariants as f64
-use Rattle.numbers.specs.declared.AsI64.{AsI64}
-use Rattle.numbers.specs.declared.AsI64.TheVariants as i64
-use Rattle.numbers.specs.declared.AsU64.{AsU64}
-use Rattle.numbers.specs.declared.AsU64.TheVariants as u64
-use Rattle.numbers.specs.declared.Quantized.{Quantized}
-use Rattle.numbers.specs.declared.Quantized.TheVariants as quantized
-use Rattle.numbers.specs.declared.RawOf.{RawOf}
-use Rattle.numbers.specs.declared.RawOf.TheVariants.{Raw, BadWidth, OutOfRange, WrongKind}
+use Rattle.numbers.specs.declared.NumberRefusal.{NumberRefusal}
+use Rattle.numbers.specs.declared.NumberRefusal.TheVariants.{BadWidth, OutOfRange, WrongKind}
 use Rattle.numbers.specs.declared.ScaleRule.{ScaleRule}
 use Rattle.numbers.specs.declared.ScaleRule.TheVariants.{Plain, Counted, Lasting, Clock, Real, Flags}
 use Rattle.numbers.specs.Special.{top_of}
@@ -34,7 +27,7 @@ use Rattle.numbers.specs.Scaling.{rule_of_lem, bits_of}
 use Rattle.numbers.specs.Held.{Held}
 use Rattle.numbers.specs.Holds.{holds_of}
 use Rattle.numbers.specs.Quantizing.{limit_of_lem, complement_of, exactly_of, nearly_of, cut_of, rounded_of, integer_of}
-use Rattle.numbers.specs.Conversions.{to_f64_of, to_i64_of, to_u64_of, ranged_of, scaled_raw_of, signed_raw_of, unsigned_raw_of, float_raw_of, whole_raw_of, resolved_of, number_of, held_raw_of, raw_of_lem}
+use Rattle.numbers.specs.Conversions.{to_f64_of, to_i64_of, to_u64_of, scaled_raw_of, signed_raw_of, unsigned_raw_of, float_raw_of, whole_raw_of, resolved_of, number_of, held_raw_of, raw_of_lem}
 use Rattle.numbers.proofs.Numeric.{given-held}
 
 -- ## Quantizing
@@ -51,12 +44,13 @@ complement-lt n signed false m h = let a = top_lt n signed in omega arith
 -- ## What a rule gives: a raw of which P holds, 10 or 11, never 1
 
 module _ (n : ℕ) (P : ℕ → Type 0) (whole : (signed negative : Bool) (m : ℕ) → m ≤ limit_of_lem n signed negative → P (complement_of n negative m)) where
-  abbrev Within : Quantized → Type 0
-  Within (quantized.Raw r) = P r
-  Within (quantized.BadWidth w) = ⊥
-  Within quantized.OutOfRange = Unit {0}
+  abbrev Within : Result ℕ NumberRefusal → Type 0
+  Within (Ok r) = P r
+  Within (Err (BadWidth w)) = ⊥
+  Within (Err OutOfRange) = Unit {0}
+  Within (Err WrongKind) = Unit {0}
 
-  picked : (b : Bool) (x y : Quantized) → (b ≡ true → Within x) → Within y → Within (pick b x y)
+  picked : (b : Bool) (x y : Result ℕ NumberRefusal) → (b ≡ true → Within x) → Within y → Within (pick b x y)
   picked true x y h k = h refl
   picked false x y h k = k
 
@@ -83,39 +77,28 @@ module _ (n : ℕ) (P : ℕ → Type 0) (whole : (signed negative : Bool) (m : �
   integer-within signed (pos m) = exactly-within signed false m
   integer-within signed (negsuc m) = exactly-within signed true (suc m)
 
-  abbrev Below : RawOf → Type 0
-  Below (Raw r) = P r
-  Below (BadWidth w) = ⊥
-  Below OutOfRange = Unit {0}
-  Below WrongKind = Unit {0}
+  scaled-below : (a : Option Float) (r : Float) (signed : Bool) → Within (scaled_raw_of a r n signed)
+  scaled-below (Some x) r signed = rounded-within signed (div binary64 x r)
+  scaled-below None r signed = tt
 
-  ranged : (q : Quantized) → Within q → Below (ranged_of q)
-  ranged (quantized.Raw r) h = h
-  ranged (quantized.BadWidth w) h = h
-  ranged quantized.OutOfRange h = tt
+  signed_below : (a : Option ℤ) → Within (signed_raw_of a n)
+  signed_below (Some z) = integer-within true z
+  signed_below None = tt
 
-  scaled-below : (a : AsF64) (r : Float) (signed : Bool) → Below (scaled_raw_of a r n signed)
-  scaled-below (f64.Got x) r signed = ranged (rounded_of n signed (div binary64 x r)) (rounded-within signed (div binary64 x r))
-  scaled-below f64.Mismatch r signed = tt
+  unsigned-below : (a : Option ℕ) → Within (unsigned_raw_of a n)
+  unsigned-below (Some m) = integer-within false (pos m)
+  unsigned-below None = tt
 
-  signed_below : (a : AsI64) → Below (signed_raw_of a n)
-  signed_below (i64.Got z) = ranged (integer_of n true z) (integer-within true z)
-  signed_below i64.Mismatch = tt
-
-  unsigned-below : (a : AsU64) → Below (unsigned_raw_of a n)
-  unsigned-below (u64.Got m) = ranged (integer_of n false (pos m)) (integer-within false (pos m))
-  unsigned-below u64.Mismatch = tt
-
-  whole_below : (signed : Bool) (v : PgnValue) → Below (whole_raw_of n signed v)
+  whole_below : (signed : Bool) (v : PgnValue) → Within (whole_raw_of n signed v)
   whole_below true v = signed_below (to_i64_of v)
   whole_below false v = unsigned-below (to_u64_of v)
 
-  resolved-below : (r : Resolution) (signed : Bool) (v : PgnValue) (unscaled : RawOf) → Below unscaled → Below (resolved_of r n signed v unscaled)
+  resolved-below : (r : Resolution) (signed : Bool) (v : PgnValue) (unscaled : Result ℕ NumberRefusal) → Within unscaled → Within (resolved_of r n signed v unscaled)
   resolved-below Unscaled signed v unscaled h = h
   resolved-below (Single r) signed v unscaled h = scaled-below (to_f64_of v) r signed
   resolved-below (Double r) signed v unscaled h = scaled-below (to_f64_of v) r signed
 
-  number-below : (rule : ScaleRule) (r : Resolution) (signed : Bool) (v : PgnValue) → (rule ≡ Real → Below (float_raw_of v)) → Below (number_of rule r n signed v)
+  number-below : (rule : ScaleRule) (r : Resolution) (signed : Bool) (v : PgnValue) → (rule ≡ Real → Within (float_raw_of v)) → Within (number_of rule r n signed v)
   number-below Plain r signed v h = resolved-below r signed v (whole_raw_of n signed v) (whole_below signed v)
   number-below Counted r signed v h = resolved-below r false v (whole_raw_of n false v) (whole_below false v)
   number-below Lasting r signed v h = resolved-below r signed v (whole_raw_of n false v) (whole_below false v)
@@ -124,7 +107,7 @@ module _ (n : ℕ) (P : ℕ → Type 0) (whole : (signed negative : Bool) (m : �
   number-below Flags r signed v h = whole_below false v
 
   -- of a Float's bits, if P holds of them
-  float_below : (v : PgnValue) → ((x : Float) → v ≡ F32 x → P (to_bits binary32 x)) → Below (float_raw_of v)
+  float_below : (v : PgnValue) → ((x : Float) → v ≡ F32 x → P (to_bits binary32 x)) → Within (float_raw_of v)
   float_below (F32 x) h = h x refl
   float_below (F64 x) h = tt
   float_below (U64 m) h = tt
@@ -137,7 +120,7 @@ module _ (n : ℕ) (P : ℕ → Type 0) (whole : (signed negative : Bool) (m : �
   float_below (I8 z) h = tt
   float_below (Bytes b) h = tt
 
-  below-raw : (q : RawOf) (r : ℕ) → q ≡ Raw r → Below q → P r
+  below-raw : (q : Result ℕ NumberRefusal) (r : ℕ) → q ≡ Ok r → Within q → P r
   below-raw q r e h = rw e at h
 
 -- ## A raw fits its field
@@ -156,7 +139,7 @@ float_lt : (n : ℕ) (v : PgnValue) → Held v → 32 ≤ n → (x : Float) → 
 float_lt n v h l x e = lt_of_lt_of_le (to_bits-lt binary32 x (subst Held e h)) (pow_mono {i = 32} l)
 
 -- of a field of 64 bits at most; a Float's has 32 or more
-pub raw-below : (f : FieldDescriptor) (v : PgnValue) (r : ℕ) → Held v → f.width ≤ 64 → Wide (rule_of_lem f.kind) f.width → raw_of_lem f v ≡ Raw r → r < 2 ^ f.width
+pub raw-below : (f : FieldDescriptor) (v : PgnValue) (r : ℕ) → Held v → f.width ≤ 64 → Wide (rule_of_lem f.kind) f.width → raw_of_lem f v ≡ Ok r → r < 2 ^ f.width
 raw-below f v r h l w given =
     let n = f.width in
     let P : ℕ → Type 0 = λ x. x < 2 ^ n in
@@ -170,7 +153,7 @@ raw-below f v r h l w given =
 
 -- ## A field that holds a number never gives 1
 
-pub no-width : (f : FieldDescriptor) (v : PgnValue) (w : ℕ) → held_raw_of f v ≡ BadWidth w → ⊥
+pub no-width : (f : FieldDescriptor) (v : PgnValue) (w : ℕ) → held_raw_of f v ≡ Err (BadWidth w) → ⊥
 no-width f v w e =
     let P : ℕ → Type 0 = λ x. Unit {0} in
     let any : (signed negative : Bool) (m : ℕ) → m ≤ limit_of_lem (bits_of f) signed negative → P (complement_of (bits_of f) negative m) = λ signed negative m l. tt in

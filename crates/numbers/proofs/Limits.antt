@@ -1,5 +1,5 @@
 -- Limits, and the cases of quantizing: what a cut that fits answers, and one that does not. Assumes nothing.
-use mathlib.Core.Path.{◌≡◌, refl, ap}
+use mathlib.Core.Path.{◌≡◌, refl, sym, ap}
 use mathlib.Core.Bool.{Bool, true, false, true≢false, false≢true}
 use Prim.Native.Nat.{ℕ, ◌-◌, ◌*◌, ◌/◌, ◌^◌, ◌≤◌}
 use native.Mathlib.Omega.{arith}
@@ -9,10 +9,12 @@ use lib.Pow.{pow_mono}
 use lib.Signed.{lt_z}
 use lib.Ieee.{Float, nan, inf, fin, lt, up, down}
 use lib.Ieee.Scale.{finite}
+use Rattle.std.specs.Prelude.{Option, Some, None, Result, Err}
 use borrow.Author.Tests.{le-ltb}
-use Rattle.rounding.specs.Truncation.{half_away_of, truncated_of, below64}
-use Rattle.rounding.specs.declared.Whole.TheVariants.{Fits}
-use Rattle.numbers.specs.declared.Quantized.TheVariants.{OutOfRange}
+use Rattle.rounding.specs.declared.Truncated.{Truncated}
+use Rattle.rounding.specs.Truncation.{half_away_of, cut_to, truncated_of, below64}
+use Rattle.numbers.specs.declared.NumberRefusal.{NumberRefusal}
+use Rattle.numbers.specs.declared.NumberRefusal.TheVariants.{OutOfRange}
 use Rattle.numbers.specs.Quantizing.{limit_of_lem, exactly_of, nearly_of, cut_of, rounded_of, integer_of}
 
 -- a limit of n bits is at most 2 ^ n
@@ -46,17 +48,22 @@ rounded-finite n signed nan h = absurd (false≢true h)
 rounded-finite n signed (inf s) h = absurd (false≢true h)
 rounded-finite n signed (fin s m e) h = refl
 
-pub rounded-infinite : (n : ℕ) (signed : Bool) (q : Float) → finite q ≡ false → OutOfRange ≡ rounded_of n signed q
+pub rounded-infinite : (n : ℕ) (signed : Bool) (q : Float) → finite q ≡ false → Err OutOfRange ≡ rounded_of n signed q
 rounded-infinite n signed nan h = refl
 rounded-infinite n signed (inf s) h = refl
 rounded-infinite n signed (fin s m e) h = absurd (true≢false h)
 
+-- what comes of a whole part
+abbrev of_part : ℕ → Bool → Option Truncated → Result ℕ NumberRefusal
+of_part n signed (Some w) = nearly_of n signed w.negative w.magnitude
+of_part n signed None = Err OutOfRange
+
 -- a float whose whole part fits 64 bits
-taken : (n : ℕ) (signed : Bool) (b s t : Bool) (x y : ℕ) → below64 b (Fits s x) ≡ Fits t y → nearly_of n signed t y ≡ nearly_of n signed s x
-taken n signed true s t x y h = let d : s ≡ t = cc in let e : x ≡ y = cc in cc
+taken : (n : ℕ) (signed : Bool) (b s t : Bool) (x y : ℕ) → below64 b (cut_to s x) ≡ cut_to t y → nearly_of n signed t y ≡ nearly_of n signed s x
+taken n signed true s t x y h = sym (ap (of_part n signed) h)
 taken n signed false s t x y h = let z : ◌≡◌ {A = ℕ} 0 1 = cc in absurd (omega arith)
 
-pub cut_fits : (n : ℕ) (signed : Bool) (y : Float) (s : Bool) (x : ℕ) → truncated_of y ≡ Fits s x → nearly_of n signed s x ≡ cut_of n signed y
+pub cut_fits : (n : ℕ) (signed : Bool) (y : Float) (s : Bool) (x : ℕ) → truncated_of y ≡ cut_to s x → nearly_of n signed s x ≡ cut_of n signed y
 unfolding truncated_of
 cut_fits n signed nan s x h = let z : ◌≡◌ {A = ℕ} 0 1 = cc in absurd (omega arith)
 cut_fits n signed (inf t) s x h = let z : ◌≡◌ {A = ℕ} 0 1 = cc in absurd (omega arith)

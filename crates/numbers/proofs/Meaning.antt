@@ -10,10 +10,11 @@ use lib.Dec.{leb, ltb}
 use lib.IntN.{ℤ, pos, negsuc, neg_ℤ}
 use lib.Pow.{pow_pos}
 use borrow.Author.Tests.{leb-true, leb-false, le-leb}
+use Rattle.std.specs.Prelude.{Ok, Err}
 use Rattle.bits.specs.Bits.{pick}
 use Rattle.bits.proofs.Written.{below}
 use Rattle.numbers.specs.Signs.{meaning_of}
-use Rattle.numbers.specs.declared.Quantized.TheVariants.{Raw, OutOfRange}
+use Rattle.numbers.specs.declared.NumberRefusal.TheVariants.{OutOfRange}
 use Rattle.numbers.specs.Quantizing.{limit_of_lem, complement_of, exactly_of, nearly_of, integer_of}
 use Rattle.numbers.proofs.Widths.{double, clear, set, some}
 
@@ -49,16 +50,16 @@ means n true true (suc m) l h = below-zero n m l h
 -- ## The raw that a number is written as
 
 module _ (n : ℕ) (signed negative : Bool) (m r : ℕ) (wide : 1 ≤ n) where
-  exactly-by : (b : Bool) → leb m (limit_of_lem n signed negative) ≡ b → pick b (Raw (complement_of n negative m)) OutOfRange ≡ Raw r → meaning_of n signed r ≡ whole negative m
+  exactly-by : (b : Bool) → leb m (limit_of_lem n signed negative) ≡ b → pick b (Ok (complement_of n negative m)) (Err OutOfRange) ≡ Ok r → meaning_of n signed r ≡ whole negative m
   exactly-by true t e = let same : complement_of n negative m ≡ r = cc in ap (meaning_of n signed) (sym same) ∙ means n signed negative m wide (leb-true _ _ t)
   exactly-by false t e = let z : ◌≡◌ {A = ℕ} 0 1 = cc in absurd (omega arith)
 
   -- a whole number that a field takes, by its sign and magnitude
-  pub exactly-means : exactly_of n signed negative m ≡ Raw r → meaning_of n signed r ≡ whole negative m
+  pub exactly-means : exactly_of n signed negative m ≡ Ok r → meaning_of n signed r ≡ whole negative m
   exactly-means e = exactly-by (leb m (limit_of_lem n signed negative)) refl e
 
   nearly-by : (b c d : Bool) → leb m (limit_of_lem n signed negative) ≡ b
-      → pick b (Raw (complement_of n negative m)) (pick c (pick d (Raw (complement_of n negative (limit_of_lem n signed negative))) OutOfRange) OutOfRange) ≡ Raw r
+      → pick b (Ok (complement_of n negative m)) (pick c (pick d (Ok (complement_of n negative (limit_of_lem n signed negative))) (Err OutOfRange)) (Err OutOfRange)) ≡ Ok r
       → meaning_of n signed r ≡ whole negative (min m (limit_of_lem n signed negative))
   nearly-by true c d t e =
       let h = leb-true m (limit_of_lem n signed negative) t in
@@ -74,30 +75,30 @@ module _ (n : ℕ) (signed negative : Bool) (m r : ℕ) (wide : 1 ≤ n) where
   nearly-by false false d t e = let z : ◌≡◌ {A = ℕ} 0 1 = cc in absurd (omega arith)
 
   -- a quotient that was cut: the raw means its whole part, or the limit where that lies beyond it
-  pub nearly-means : nearly_of n signed negative m ≡ Raw r → meaning_of n signed r ≡ whole negative (min m (limit_of_lem n signed negative))
+  pub nearly-means : nearly_of n signed negative m ≡ Ok r → meaning_of n signed r ≡ whole negative (min m (limit_of_lem n signed negative))
   nearly-means e = let limit = limit_of_lem n signed negative in nearly-by (leb m limit) (ltb 53 n) (leb m (limit + 2 ^ (n - 53))) refl e
 
 -- an integer that an unscaled field takes
-pub integer-means : (n : ℕ) (signed : Bool) (z : ℤ) (r : ℕ) → 1 ≤ n → integer_of n signed z ≡ Raw r → meaning_of n signed r ≡ z
+pub integer-means : (n : ℕ) (signed : Bool) (z : ℤ) (r : ℕ) → 1 ≤ n → integer_of n signed z ≡ Ok r → meaning_of n signed r ≡ z
 integer-means n signed (pos m) r l e = exactly-means n signed false m r l e
 integer-means n signed (negsuc m) r l e = exactly-means n signed true (suc m) r l e
 
 -- ## The number that a raw means
 
 -- a raw with its top bit set
-top-raw : (n r : ℕ) → 2 ^ (n - 1) ≤ r → r < 2 ^ n → integer_of n true (negsuc (2 ^ n - suc r)) ≡ Raw r
+top-raw : (n r : ℕ) → 2 ^ (n - 1) ≤ r → r < 2 ^ n → integer_of n true (negsuc (2 ^ n - suc r)) ≡ Ok r
 top-raw n r h l =
     let d = double n (some n r h l) in
     let m = suc (2 ^ n - suc r) in
     let at : 2 ^ n - m ≡ r = omega arith in
     let back : complement_of n true m ≡ r = ap (λ (x : ℕ). x % 2 ^ n) at ∙ mod-eq_of_lt l in
-    ap (λ (b : Bool). pick b (Raw (complement_of n true m)) OutOfRange) (le-leb m (2 ^ (n - 1)) (omega arith)) ∙ ap Raw back
+    ap (λ (b : Bool). pick b (Ok (complement_of n true m)) (Err OutOfRange)) (le-leb m (2 ^ (n - 1)) (omega arith)) ∙ ap Ok back
 
 -- a raw of n bits is the raw of the number that it means: so none is refused, and none is of two numbers
-pub raw_of-meaning : (n : ℕ) (signed : Bool) (r : ℕ) → r < 2 ^ n → integer_of n signed (meaning_of n signed r) ≡ Raw r
-raw_of-meaning n false r l = ap (λ (b : Bool). pick b (Raw r) OutOfRange) (le-leb r (2 ^ n - 1) (omega arith))
+pub raw_of-meaning : (n : ℕ) (signed : Bool) (r : ℕ) → r < 2 ^ n → integer_of n signed (meaning_of n signed r) ≡ Ok r
+raw_of-meaning n false r l = ap (λ (b : Bool). pick b (Ok r) (Err OutOfRange)) (le-leb r (2 ^ n - 1) (omega arith))
 raw_of-meaning n true r l =
     ⊎_elim
-    (λ (h : r < 2 ^ (n - 1)). ap (integer_of n true) (clear n r h) ∙ ap (λ (b : Bool). pick b (Raw r) OutOfRange) (le-leb r (2 ^ (n - 1) - 1) (omega arith)))
+    (λ (h : r < 2 ^ (n - 1)). ap (integer_of n true) (clear n r h) ∙ ap (λ (b : Bool). pick b (Ok r) (Err OutOfRange)) (le-leb r (2 ^ (n - 1) - 1) (omega arith)))
     (λ (h : 2 ^ (n - 1) ≤ r). ap (integer_of n true) (set n r h l) ∙ top-raw n r h l)
     (below r (2 ^ (n - 1)))

@@ -5,13 +5,12 @@ use Prim.Native.Nat.{ℕ, ◌≤◌}
 use native.Mathlib.Omega.{arith}
 use lib.Dec.{leb}
 use borrow.Author.Tests.{leb-true, le-leb}
+use Rattle.std.specs.Prelude.{Result, Ok, Err}
 use Rattle.bits.specs.Bits.{pick}
 use Rattle.bits.specs.Calls.{width_max}
 use Rattle.descriptor.specs.declared.FieldDescriptor.{FieldDescriptor}
-use Rattle.numbers.specs.declared.Holds.{Holds}
-use Rattle.numbers.specs.declared.Holds.TheVariants.{Number, NoNumber, BadWidth}
-use Rattle.numbers.specs.declared.RawOf.{RawOf}
-use Rattle.numbers.specs.declared.RawOf.TheVariants.{Raw}
+use Rattle.numbers.specs.declared.NumberRefusal.{NumberRefusal}
+use Rattle.numbers.specs.declared.NumberRefusal.TheVariants.{BadWidth, WrongKind}
 use Rattle.numbers.specs.Holds.{is_width_lem, is_numeric_lem, holds_of}
 use Rattle.numbers.specs.Conversions.{if_held}
 
@@ -25,13 +24,12 @@ width-in n h = go (leb 1 n) (leb n width_max) refl refl h
     go false y e f h = absurd (false≢true h)
 
 -- a field of a numeric kind, of 1 to 64 bits, holds a number
-pub holds : (f : FieldDescriptor) → is_numeric_lem f.kind f.width ≡ true → 1 ≤ f.width → f.width ≤ 64 → holds_of f ≡ Number
+pub holds : (f : FieldDescriptor) → is_numeric_lem f.kind f.width ≡ true → 1 ≤ f.width → f.width ≤ 64 → holds_of f ≡ Ok tt
 holds f k l h =
-    ap₂ (λ (x y : Bool). pick x (pick y Number (BadWidth f.width)) NoNumber) k
+    ap₂ (λ (x y : Bool). pick x (pick y (Ok tt) (Err (BadWidth f.width))) (Err WrongKind)) k
     (ap₂ (λ (x y : Bool). x && y) (le-leb 1 f.width l) (le-leb f.width width_max h))
 
 -- a field that gives a raw holds a number
-pub given-held : (h : Holds) (x : RawOf) (r : ℕ) → if_held h x ≡ Raw r → x ≡ Raw r
-given-held Number x r e = e
-given-held NoNumber x r e = let z : ◌≡◌ {A = ℕ} 0 1 = cc in absurd (omega arith)
-given-held (BadWidth w) x r e = let z : ◌≡◌ {A = ℕ} 0 1 = cc in absurd (omega arith)
+pub given-held : (h : Result (Unit {0}) NumberRefusal) (x : Result ℕ NumberRefusal) (r : ℕ) → if_held h x ≡ Ok r → x ≡ Ok r
+given-held (Ok u) x r e = e
+given-held (Err w) x r e = let z : ◌≡◌ {A = ℕ} 0 1 = cc in absurd (omega arith)

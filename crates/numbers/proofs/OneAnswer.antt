@@ -16,12 +16,9 @@ use Rattle.numbers.proofs.words.silence_of.Reads as silence-of
 use Rattle.numbers.proofs.words.simple_words.Reads as simple-words
 use Rattle.numbers.proofs.words.number_words.Reads as number-words
 use Rattle.numbers.proofs.holding.holds_number.Reads as holds-number
-use Rattle.numbers.proofs.RawOf.number.Reads as raw-number
-use Rattle.numbers.proofs.RawOf.carried_count.Reads as raw-carried-count
-use Rattle.numbers.proofs.RawOf.carried.Reads as raw_carried
-use Rattle.numbers.proofs.Quantized.number.Reads as quantized-number
-use Rattle.numbers.proofs.Quantized.carried_count.Reads as quantized-carried-count
-use Rattle.numbers.proofs.Quantized.carried.Reads as quantized-carried
+use Rattle.numbers.proofs.NumberRefusal.number.Reads as number
+use Rattle.numbers.proofs.NumberRefusal.carried_count.Reads as carried-count
+use Rattle.numbers.proofs.NumberRefusal.carried.Reads as carried
 
 one-sign-extend : Fixes sign-extend.Post (λ κs x s. x)
 one-sign-extend = fixed (λ κs a x s p. p)
@@ -68,20 +65,11 @@ one-number-words = fixed (λ κs a x s p. p)
 one-holds-number : Fixes holds-number.Post (λ κs x s. x)
 one-holds-number = fixed (λ κs a x s p. p)
 
-one-raw-number : Fixes raw-number.Post (λ κs x s. x)
-one-raw-number = fixed (λ κs a x s p. p)
+one-number : Fixes number.Post (λ κs x s. x)
+one-number = fixed (λ κs a x s p. p)
 
-one-raw-carried-count : Fixes raw-carried-count.Post (λ κs x s. x)
-one-raw-carried-count = fixed (λ κs a x s p. p)
+one-carried-count : Fixes carried-count.Post (λ κs x s. x)
+one-carried-count = fixed (λ κs a x s p. p)
 
-one-raw-carried : Fixes raw_carried.Post (λ κs x s. x)
-one-raw-carried = fixed (λ κs a x s p. p)
-
-one-quantized-number : Fixes quantized-number.Post (λ κs x s. x)
-one-quantized-number = fixed (λ κs a x s p. p)
-
-one-quantized-carried-count : Fixes quantized-carried-count.Post (λ κs x s. x)
-one-quantized-carried-count = fixed (λ κs a x s p. p)
-
-one-quantized-carried : Fixes quantized-carried.Post (λ κs x s. x)
-one-quantized-carried = fixed (λ κs a x s p. p)
+one-carried : Fixes carried.Post (λ κs x s. x)
+one-carried = fixed (λ κs a x s p. p)

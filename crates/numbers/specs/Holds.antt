@@ -1,12 +1,12 @@
 -- Which fields hold a number: document 01, "Reading a payload", and refusals 1 and 11.
-use Rattle.std.specs.Prelude.{ℕ, ◌%◌, Bool, true, false, not, ◌&&◌, leb, eqb}
+use Rattle.std.specs.Prelude.{ℕ, ◌%◌, Bool, true, false, not, ◌&&◌, Result, Ok, Err, leb, eqb}
 use Rattle.bits.specs.Bits.{pick}
 use Rattle.bits.specs.Calls.{width_max}
 use Rattle.descriptor.specs.declared.FieldKind.{FieldKind}
 use Rattle.descriptor.specs.declared.FieldKind.TheVariants as kind
 use Rattle.descriptor.specs.declared.FieldDescriptor.{FieldDescriptor}
-use Rattle.numbers.specs.declared.Holds.{Holds}
-use Rattle.numbers.specs.declared.Holds.TheVariants.{Number, NoNumber, BadWidth}
+use Rattle.numbers.specs.declared.NumberRefusal.{NumberRefusal}
+use Rattle.numbers.specs.declared.NumberRefusal.TheVariants.{BadWidth, WrongKind}
 
 -- 1: "width 0, or over the call's maximum"
 abbrev pub is_width_lem : ℕ → Bool
@@ -35,5 +35,5 @@ is_numeric_lem kind.Decimal w = false
 is_numeric_lem kind.Unimplemented w = false
 
 -- a field that holds no number is told before a width that no number has: a StringLz has none
-abbrev pub holds_of : FieldDescriptor → Holds
-holds_of f = pick (is_numeric_lem f.kind f.width) (pick (is_width_lem f.width) Number (BadWidth f.width)) NoNumber
+abbrev pub holds_of : FieldDescriptor → Result (Unit {0}) NumberRefusal
+holds_of f = pick (is_numeric_lem f.kind f.width) (pick (is_width_lem f.width) (Ok tt) (Err (BadWidth f.width))) (Err WrongKind)

@@ -2,106 +2,70 @@
 ghost use Rattle.std.specs.Prelude.{◌≡◌, ◌≤◌};
 ghost use Rattle.std.specs.Float.Ieee as Ieee;
 ghost use Rattle.std.specs.Float.{binary32, binary64};
-ghost use Rattle.numbers.specs.Conversions.{to_f64_of, to_i64_of, to_u64_of, ranged_of, scaled_raw_of, signed_raw_of, unsigned_raw_of, float_raw_of, whole_raw_of, resolved_of, number_of, held_raw_of, raw_of_lem};
+ghost use Rattle.numbers.specs.Conversions.{to_f64_of, to_i64_of, to_u64_of, scaled_raw_of, signed_raw_of, unsigned_raw_of, float_raw_of, whole_raw_of, resolved_of, number_of, held_raw_of, raw_of_lem};
 
 use crate::holding::holds_number;
 use crate::scale::{rule_of, widen};
-use crate::{AsF64, AsI64, AsU64, Holds, Quantized, RawOf, ScaleRule, quantizing, signs};
+use crate::{NumberRefusal, ScaleRule, quantizing, signs};
 use descriptor::{FieldDescriptor, PgnValue, Resolution};
 
 // Floats as they are, signed integers rounded.
-pub fn pgn_value_to_f64(value: PgnValue) -> AsF64
+pub fn pgn_value_to_f64(value: PgnValue) -> Option<f64>
     ensures { result ≡ to_f64_of value }
 {
     match value {
-        PgnValue::F64(x) => AsF64::Got(x),
-        PgnValue::F32(x) => AsF64::Got(widen(x)),
-        PgnValue::I64(z) => AsF64::Got(rounding::nearest_i64_to_f64(z)),
-        PgnValue::I32(z) => AsF64::Got(rounding::nearest_i64_to_f64(z as i64)),
-        PgnValue::I16(z) => AsF64::Got(rounding::nearest_i64_to_f64(z as i64)),
-        PgnValue::I8(z) => AsF64::Got(rounding::nearest_i64_to_f64(z as i64)),
-        PgnValue::U64(_) => AsF64::Mismatch,
-        PgnValue::U32(_) => AsF64::Mismatch,
-        PgnValue::U16(_) => AsF64::Mismatch,
-        PgnValue::U8(_) => AsF64::Mismatch,
-        PgnValue::Bytes(_) => AsF64::Mismatch,
+        PgnValue::F64(x) => Some(x),
+        PgnValue::F32(x) => Some(widen(x)),
+        _ => Some(rounding::nearest_i64_to_f64(pgn_value_to_i64(value)?)),
     }
 }
 
 // Signed integers.
-pub fn pgn_value_to_i64(value: PgnValue) -> AsI64
+pub fn pgn_value_to_i64(value: PgnValue) -> Option<i64>
     ensures { result ≡ to_i64_of value }
 {
     match value {
-        PgnValue::I64(z) => AsI64::Got(z),
-        PgnValue::I32(z) => AsI64::Got(z as i64),
-        PgnValue::I16(z) => AsI64::Got(z as i64),
-        PgnValue::I8(z) => AsI64::Got(z as i64),
-        PgnValue::U64(_) => AsI64::Mismatch,
-        PgnValue::U32(_) => AsI64::Mismatch,
-        PgnValue::U16(_) => AsI64::Mismatch,
-        PgnValue::U8(_) => AsI64::Mismatch,
-        PgnValue::F64(_) => AsI64::Mismatch,
-        PgnValue::F32(_) => AsI64::Mismatch,
-        PgnValue::Bytes(_) => AsI64::Mismatch,
+        PgnValue::I64(z) => Some(z),
+        PgnValue::I32(z) => Some(z as i64),
+        PgnValue::I16(z) => Some(z as i64),
+        PgnValue::I8(z) => Some(z as i64),
+        _ => None,
     }
 }
 
 // Unsigned integers.
-pub fn pgn_value_to_u64(value: PgnValue) -> AsU64
+pub fn pgn_value_to_u64(value: PgnValue) -> Option<u64>
     ensures { result ≡ to_u64_of value }
 {
     match value {
-        PgnValue::U64(n) => AsU64::Got(n),
-        PgnValue::U32(n) => AsU64::Got(n as u64),
-        PgnValue::U16(n) => AsU64::Got(n as u64),
-        PgnValue::U8(n) => AsU64::Got(n as u64),
-        PgnValue::I64(_) => AsU64::Mismatch,
-        PgnValue::I32(_) => AsU64::Mismatch,
-        PgnValue::I16(_) => AsU64::Mismatch,
-        PgnValue::I8(_) => AsU64::Mismatch,
-        PgnValue::F64(_) => AsU64::Mismatch,
-        PgnValue::F32(_) => AsU64::Mismatch,
-        PgnValue::Bytes(_) => AsU64::Mismatch,
-    }
-}
-
-pub(crate) fn ranged(q: Quantized) -> RawOf
-    ensures { result ≡ ranged_of q }
-{
-    match q {
-        Quantized::Raw(raw) => RawOf::Raw(raw),
-        Quantized::BadWidth(width) => RawOf::BadWidth(width),
-        Quantized::OutOfRange => RawOf::OutOfRange,
+        PgnValue::U64(n) => Some(n),
+        PgnValue::U32(n) => Some(n as u64),
+        PgnValue::U16(n) => Some(n as u64),
+        PgnValue::U8(n) => Some(n as u64),
+        _ => None,
     }
 }
 
 // A scaled field of n bits.
-fn scaled(resolution: f32, n: u32, signed: bool, value: PgnValue) -> RawOf
+fn scaled(resolution: f32, n: u32, signed: bool, value: PgnValue) -> Result<u64, NumberRefusal>
     requires { n ≤ 64 }
     ensures { result ≡ scaled_raw_of (to_f64_of value) resolution n signed }
 {
-    let AsF64::Got(x) = pgn_value_to_f64(value) else {
-        return RawOf::WrongKind;
-    };
-    ranged(quantizing::quotient(x, resolution, n, signed))
+    let x = pgn_value_to_f64(value).ok_or(NumberRefusal::WrongKind)?;
+    quantizing::quotient(x, resolution, n, signed)
 }
 
 // An unscaled field of n bits.
-fn whole(n: u32, signed: bool, value: PgnValue) -> RawOf
+fn whole(n: u32, signed: bool, value: PgnValue) -> Result<u64, NumberRefusal>
     requires { n ≤ 64 }
     ensures { result ≡ whole_raw_of n signed value }
 {
     if signed {
-        let AsI64::Got(z) = pgn_value_to_i64(value) else {
-            return RawOf::WrongKind;
-        };
-        return ranged(quantizing::signed_integer(n, z));
+        let z = pgn_value_to_i64(value).ok_or(NumberRefusal::WrongKind)?;
+        return quantizing::signed_integer(n, z);
     }
-    let AsU64::Got(m) = pgn_value_to_u64(value) else {
-        return RawOf::WrongKind;
-    };
-    ranged(quantizing::unsigned_integer(n, m))
+    let m = pgn_value_to_u64(value).ok_or(NumberRefusal::WrongKind)?;
+    quantizing::unsigned_integer(n, m)
 }
 
 fn float_bits(x: f32) -> u64
@@ -110,13 +74,13 @@ fn float_bits(x: f32) -> u64
     rounding::bits_of_f32(x) as u64
 }
 
-fn float(value: PgnValue) -> RawOf
+fn float(value: PgnValue) -> Result<u64, NumberRefusal>
     ensures { result ≡ float_raw_of value }
 {
     let PgnValue::F32(x) = value else {
-        return RawOf::WrongKind;
+        return Err(NumberRefusal::WrongKind);
     };
-    RawOf::Raw(float_bits(x))
+    Ok(float_bits(x))
 }
 
 // A field that may be scaled, signed or not where it is, and where it is not.
@@ -126,7 +90,7 @@ fn resolved(
     signed: bool,
     whole_signed: bool,
     value: PgnValue,
-) -> RawOf
+) -> Result<u64, NumberRefusal>
     requires { n ≤ 64 }
     ensures { result ≡ resolved_of resolution n signed value (whole_raw_of n whole_signed value) }
 {
@@ -138,7 +102,7 @@ fn resolved(
 }
 
 // The raw of a value in a field that holds a number.
-fn held_raw(f: FieldDescriptor, value: PgnValue) -> RawOf
+fn held_raw(f: FieldDescriptor, value: PgnValue) -> Result<u64, NumberRefusal>
     ensures { result ≡ held_raw_of f value }
 {
     let n = signs::least(f.width, 64);
@@ -157,12 +121,9 @@ fn held_raw(f: FieldDescriptor, value: PgnValue) -> RawOf
 
 // The raw of a value in a field: 11 where the field holds no number, 1 where its width is none; then
 // 11 or 10 by the value.
-pub fn number_to_raw(f: FieldDescriptor, value: PgnValue) -> RawOf
+pub fn number_to_raw(f: FieldDescriptor, value: PgnValue) -> Result<u64, NumberRefusal>
     ensures { result ≡ raw_of_lem f value }
 {
-    match holds_number(f) {
-        Holds::Number => held_raw(f, value),
-        Holds::NoNumber => RawOf::WrongKind,
-        Holds::BadWidth(width) => RawOf::BadWidth(width),
-    }
+    holds_number(f)?;
+    held_raw(f, value)
 }

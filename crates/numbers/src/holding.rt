@@ -2,14 +2,14 @@
 ghost use Rattle.std.specs.Prelude.{◌≡◌};
 ghost use Rattle.numbers.specs.Holds.{is_width_lem, is_numeric_lem, holds_of};
 
-use crate::Holds;
+use crate::NumberRefusal;
 use descriptor::{FieldDescriptor, FieldKind};
 
 // Whether a number can have so many bits.
 pub(crate) fn is_width(n: u32) -> bool
     ensures { result ≡ is_width_lem n }
 {
-    if 1 <= n { n <= 64 } else { false }
+    1 <= n && n <= 64
 }
 
 // Whether a field of a kind and a width is a number on the wire.
@@ -39,17 +39,15 @@ fn is_numeric(kind: FieldKind, width: u32) -> bool
     }
 }
 
-// Whether a field holds a number, of 1 to 64 bits.
-pub fn holds_number(f: FieldDescriptor) -> Holds
+// Whether a field holds a number, of 1 to 64 bits: 11 where its kind is none, 1 where its width is.
+pub fn holds_number(f: FieldDescriptor) -> Result<(), NumberRefusal>
     ensures { result ≡ holds_of f }
 {
-    let kind = f.kind;
-    let width = f.width;
-    if is_numeric(kind, width) {
-        if is_width(width) {
-            return Holds::Number;
-        }
-        return Holds::BadWidth(width);
+    if !is_numeric(f.kind, f.width) {
+        return Err(NumberRefusal::WrongKind);
     }
-    Holds::NoNumber
+    if !is_width(f.width) {
+        return Err(NumberRefusal::BadWidth(f.width));
+    }
+    Ok(())
 }

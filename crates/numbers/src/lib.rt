@@ -48,53 +48,14 @@ pub struct NumberWords {
     pub silence: u64,
 }
 
-// Whether a field holds a number.
+// Why a number is refused. `number` gives document 01's number, `carried` what it carries.
 #[derive(Clone, Copy)]
-pub enum Holds {
-    Number,
-    // 11: text, bytes, bits that are skipped, or a kind that document 01 does not have.
-    NoNumber,
+pub enum NumberRefusal {
     // 1: this width, of 0 bits or over 64.
     BadWidth(u32),
-}
-
-// The answer of `quantize`. `number` gives document 01's number, `carried` what it carries.
-#[derive(Clone, Copy)]
-pub enum Quantized {
-    Raw(u64),
-    // 1
-    BadWidth(u32),
     // 10
     OutOfRange,
-}
-
-// The answers of the conversions.
-#[derive(Clone, Copy)]
-pub enum AsF64 {
-    Got(f64),
-    Mismatch,
-}
-
-#[derive(Clone, Copy)]
-pub enum AsI64 {
-    Got(i64),
-    Mismatch,
-}
-
-#[derive(Clone, Copy)]
-pub enum AsU64 {
-    Got(u64),
-    Mismatch,
-}
-
-// The answer of `number_to_raw`. `number` gives document 01's number, `carried` what it carries.
-#[derive(Clone, Copy)]
-pub enum RawOf {
-    Raw(u64),
-    // 1
-    BadWidth(u32),
-    // 10
-    OutOfRange,
-    // 11
+    // 11: a value of another kind. A field of text, bytes, bits that are skipped, or a kind that
+    // document 01 does not have takes no number.
     WrongKind,
 }

@@ -1,16 +1,15 @@
 // From a value to a raw: the f64 quotient, a half away from zero, the cut, the limits.
-ghost use Rattle.std.specs.Prelude.{◌≡◌, true, false, ◌-◌, ◌^◌, ◌≤◌};
+ghost use Rattle.std.specs.Prelude.{◌≡◌, true, false, ◌-◌, ◌^◌, ◌≤◌, None};
 ghost use Rattle.std.specs.Float.Ieee.Scale.{finite};
 ghost use Rattle.rounding.specs.Truncation.{truncated_of};
-ghost use Rattle.rounding.specs.declared.Whole.TheVariants as whole;
 ghost use Rattle.numbers.specs.Quantizing.{limit_of_lem, complement_of, exactly_of, nearly_of, cut_of, quotient_of, quantize_of, integer_of};
 
-use crate::Quantized;
+use crate::NumberRefusal;
 use crate::holding::is_width;
 use crate::scale::widen;
 use crate::special::{one_less, ones, top_of};
 use halves::left;
-use rounding::Whole;
+use rounding::Truncated;
 
 // The largest magnitude of n bits on one side of zero.
 fn limit_of(n: u32, signed: bool, negative: bool) -> u64
@@ -41,65 +40,67 @@ fn complement(n: u32, negative: bool, magnitude: u64) -> u64
 }
 
 // In range, or 10.
-fn exactly(n: u32, signed: bool, negative: bool, magnitude: u64) -> Quantized
+fn exactly(n: u32, signed: bool, negative: bool, magnitude: u64) -> Result<u64, NumberRefusal>
     requires { n ≤ 64 }
     ensures { result ≡ exactly_of n signed negative magnitude }
 {
     let limit = limit_of(n, signed, negative);
     if magnitude <= limit {
-        return Quantized::Raw(complement(n, negative, magnitude));
+        return Ok(complement(n, negative, magnitude));
     }
-    Quantized::OutOfRange
+    Err(NumberRefusal::OutOfRange)
 }
 
 // In range, or above 53 bits as near beyond a limit as f64 can tell: then that limit; or 10.
-fn nearly(n: u32, signed: bool, negative: bool, magnitude: u64) -> Quantized
+fn nearly(n: u32, signed: bool, negative: bool, magnitude: u64) -> Result<u64, NumberRefusal>
     requires { n ≤ 64 }
     ensures { result ≡ nearly_of n signed negative magnitude }
 {
     let limit = limit_of(n, signed, negative);
     if magnitude <= limit {
-        return Quantized::Raw(complement(n, negative, magnitude));
+        return Ok(complement(n, negative, magnitude));
     }
     if 53 < n {
         let over = magnitude - limit;
         if over <= left(1, (n - 53) as usize) {
-            return Quantized::Raw(complement(n, negative, limit));
+            return Ok(complement(n, negative, limit));
         }
-        return Quantized::OutOfRange;
+        return Err(NumberRefusal::OutOfRange);
     }
-    Quantized::OutOfRange
+    Err(NumberRefusal::OutOfRange)
 }
 
 // A float whose magnitude is 2^64 or more, or that is none. Of the unsigned 64-bit raws the last is
 // still within 2,048 of 2^64, and of no other float so large.
-fn too_big(n: u32, signed: bool, y: f64) -> Quantized
-    requires { (n ≤ 64) × (truncated_of y ≡ whole.TooBig) }
+fn too_big(n: u32, signed: bool, y: f64) -> Result<u64, NumberRefusal>
+    requires { (n ≤ 64) × (truncated_of y ≡ None) }
     ensures { result ≡ cut_of n signed y }
 {
     if y == 18446744073709551616.0 {
         if signed {
-            return Quantized::OutOfRange;
+            return Err(NumberRefusal::OutOfRange);
         }
         if n == 64 {
-            return Quantized::Raw(0xffff_ffff_ffff_ffff);
+            return Ok(0xffff_ffff_ffff_ffff);
         }
-        return Quantized::OutOfRange;
+        return Err(NumberRefusal::OutOfRange);
     }
-    Quantized::OutOfRange
+    Err(NumberRefusal::OutOfRange)
 }
 
 // Cut toward zero, then the limits.
-fn cut(n: u32, signed: bool, y: f64) -> Quantized
+fn cut(n: u32, signed: bool, y: f64) -> Result<u64, NumberRefusal>
     requires { n ≤ 64 }
     ensures { result ≡ cut_of n signed y }
 {
     match rounding::truncated_bits(y) {
-        Whole::Fits {
-            negative,
-            magnitude,
-        } => nearly(n, signed, negative, magnitude),
-        Whole::TooBig => too_big(n, signed, y),
+        Some(
+            Truncated {
+                negative,
+                magnitude,
+            },
+        ) => nearly(n, signed, negative, magnitude),
+        None => too_big(n, signed, y),
     }
 }
 
@@ -114,7 +115,12 @@ fn is_finite(q: f64) -> bool
 }
 
 // The raw of a value in a scaled field of n bits.
-pub(crate) fn quotient(value: f64, resolution: f32, n: u32, signed: bool) -> Quantized
+pub(crate) fn quotient(
+    value: f64,
+    resolution: f32,
+    n: u32,
+    signed: bool,
+) -> Result<u64, NumberRefusal>
     requires { n ≤ 64 }
     ensures { result ≡ quotient_of value resolution n signed }
 {
@@ -122,21 +128,21 @@ pub(crate) fn quotient(value: f64, resolution: f32, n: u32, signed: bool) -> Qua
     if is_finite(q) {
         return cut(n, signed, rounding::half_away(q));
     }
-    Quantized::OutOfRange
+    Err(NumberRefusal::OutOfRange)
 }
 
 // The raw of a value in a scaled field of so many bits: 1 to 64, else 1.
-pub fn quantize(value: f64, resolution: f32, bits: u32, signed: bool) -> Quantized
+pub fn quantize(value: f64, resolution: f32, bits: u32, signed: bool) -> Result<u64, NumberRefusal>
     ensures { result ≡ quantize_of value resolution bits signed }
 {
     if is_width(bits) {
         return quotient(value, resolution, bits, signed);
     }
-    Quantized::BadWidth(bits)
+    Err(NumberRefusal::BadWidth(bits))
 }
 
 // The raw of an integer in an unscaled signed field of n bits.
-pub(crate) fn signed_integer(n: u32, z: i64) -> Quantized
+pub(crate) fn signed_integer(n: u32, z: i64) -> Result<u64, NumberRefusal>
     requires { n ≤ 64 }
     ensures { result ≡ integer_of n true z }
 {
@@ -144,7 +150,7 @@ pub(crate) fn signed_integer(n: u32, z: i64) -> Quantized
 }
 
 // The raw of an integer in an unscaled unsigned field of n bits.
-pub(crate) fn unsigned_integer(n: u32, m: u64) -> Quantized
+pub(crate) fn unsigned_integer(n: u32, m: u64) -> Result<u64, NumberRefusal>
     requires { n ≤ 64 }
     ensures { result ≡ exactly_of n false false m }
 {

@@ -1,13 +1,11 @@
 -- How the values of an encode lie in bytes: records of 24. It is no part of document 01, which leaves the boundary's layout open:
 -- include/samopute.h says the same in C.
-use Rattle.std.specs.Prelude.{ℕ, ◌+◌, ◌*◌, ◌/◌, ◌^◌, List, [], ◌∷◌, eqb, ltb, length, get_or}
+use Rattle.std.specs.Prelude.{ℕ, ◌+◌, ◌*◌, ◌/◌, ◌^◌, List, [], ◌∷◌, eqb, ltb, length, get_or, Option, Some, None}
 use Rattle.std.specs.Float.{binary32, binary64}
 use Rattle.std.specs.Float.Ieee.{of_bits}
 use Rattle.std.specs.Int.Signed.{mag}
 use Rattle.bits.specs.Bits.{pick, bits_at}
 use Rattle.bits.specs.Calls.{bytes}
-use Rattle.descriptor.specs.declared.Encoding.{Encoding}
-use Rattle.descriptor.specs.declared.Encoding.TheVariants.{Absent, Byte}
 use Rattle.descriptor.specs.declared.PgnBytes.{PgnBytes}
 use Rattle.descriptor.specs.declared.PgnValue.{PgnValue}
 use Rattle.descriptor.specs.declared.PgnValue.TheVariants.{U64, U32, U16, U8, I64, I32, I16, I8, F64, F32, Bytes}
@@ -52,8 +50,8 @@ abbrev pub word_at : List ℕ → ℕ → ℕ
 word_at s q = bits_at s (q * 8) 64
 
 -- a mark of 0 says that there is no encoding byte
-abbrev pub encoding_in_lem : ℕ → ℕ → Encoding
-encoding_in_lem mark byte = pick (eqb mark 0) Absent (Byte byte)
+abbrev pub encoding_in_lem : ℕ → ℕ → Option ℕ
+encoding_in_lem mark byte = pick (eqb mark 0) None (Some byte)
 
 -- a text or bytes: byte 1 marks the encoding byte, which is byte 2; from byte 8 the place in the lent text, from byte 16 the length. Bytes 3
 -- to 7 are not looked at

@@ -5,7 +5,7 @@ ghost use Rattle.offers.specs.Records.{word_at, encoding_in_lem, text_at_lem, re
 use crate::Offer;
 use crate::kinds::offer_of;
 use bits::{BitPos, ByteCount, Cursor, ReadU64};
-use descriptor::{Encoding, PgnBytes, PgnValue};
+use descriptor::{PgnBytes, PgnValue};
 
 const RECORD_BYTES: usize = 24;
 
@@ -21,13 +21,10 @@ fn word_at(s: &[u8], q: usize) -> u64
     }
 }
 
-fn encoding_in(mark: u8, byte: u8) -> Encoding
+fn encoding_in(mark: u8, byte: u8) -> Option<u8>
     ensures { result ≡ encoding_in_lem mark byte }
 {
-    if mark == 0 {
-        return Encoding::Absent;
-    }
-    Encoding::Byte(byte)
+    (mark != 0).then_some(byte)
 }
 
 // The text whose record starts at byte q.

@@ -17,8 +17,6 @@ use Rattle.columns.specs.Parts.{space, parts_of, marks_in, field}
 use Rattle.columns.specs.Numbers.{decimal_in}
 use Rattle.columns.specs.Runs.{is_bytes, bytes_of, values_of, is_words}
 use Rattle.lines.specs.Machine.{newline as mark}
-use Rattle.descriptor.specs.declared.Encoding.{Encoding}
-use Rattle.descriptor.specs.declared.Encoding.TheVariants as encoding
 use Rattle.descriptor.specs.declared.PgnValue.{PgnValue}
 use Rattle.descriptor.specs.declared.PgnValue.TheVariants.{U64, U32, U16, U8, I64, I32, I16, I8, F64, F32, Bytes}
 use Rattle.numbers.specs.Words.{word_of_lem}
@@ -58,9 +56,9 @@ kind-size (F64 x) = omega arith
 kind-size (F32 x) = omega arith
 kind-size (Bytes b) = omega arith
 
-encoding-size : (e : Encoding) → length (encoding_text e) ≤ 3
-encoding-size (encoding.Byte b) = omega (arith, length_digits (b ∷ []))
-encoding-size encoding.Absent = omega arith
+encoding-size : (e : Option ℕ) → length (encoding_text e) ≤ 3
+encoding-size (Some b) = omega (arith, length_digits (b ∷ []))
+encoding-size None = omega arith
 
 content-size : (x : PgnValue) → length (content_text x) ≤ 45
 content-size (U64 x) = omega (arith, (hex-size (word_of_lem (U64 x))).1)

@@ -4,8 +4,6 @@ use mathlib.Core.List.{List, [], ◌∷◌, ◌++◌, flat_map}
 use Rattle.bits.specs.Bits.{pick}
 use Rattle.hexadecimal.specs.Digits.{digits_of}
 use Rattle.text.specs.Digits.{hex_of, spaced, spaced_hex, bytes_text}
-use Rattle.descriptor.specs.declared.Encoding.{Encoding}
-use Rattle.descriptor.specs.declared.Encoding.TheVariants as encoding
 use Rattle.descriptor.specs.declared.PgnValue.{PgnValue}
 use Rattle.descriptor.specs.declared.PgnValue.TheVariants.{U64, U32, U16, U8, I64, I32, I16, I8, F64, F32, Bytes}
 use Rattle.numbers.specs.Words.{word_of_lem}
@@ -39,9 +37,9 @@ kind_text (F32 x) = 32 ∷ 70 ∷ 51 ∷ 50 ∷ []
 kind_text (Bytes b) = 32 ∷ 66 ∷ 121 ∷ 116 ∷ 101 ∷ 115 ∷ []
 
 -- "ENCODING [..] '-' where there is none", after a space
-abbrev pub encoding_text : Encoding → List ℕ
-encoding_text (encoding.Byte b) = 32 ∷ digits_of (b ∷ [])
-encoding_text encoding.Absent = 32 ∷ 45 ∷ []
+abbrev pub encoding_text : Option ℕ → List ℕ
+encoding_text (Some b) = 32 ∷ digits_of (b ∷ [])
+encoding_text None = 32 ∷ 45 ∷ []
 
 -- VALUE, after a space: a number by its 64 bits; "for text and bytes [..] PLACE:LENGTH and the ENCODING"
 abbrev pub content_text : PgnValue → List ℕ

@@ -5,7 +5,7 @@ ghost use Rattle.descriptor.specs.declared.PgnValue.TheVariants.{Bytes};
 ghost use Rattle.readcalls.specs.Lines.{raw_text, kind_text, encoding_text, content_text, reading_line, last_line_lem, touched as touchedOf, run_line};
 
 use columns::{part, word};
-use descriptor::{Encoding, PgnBytes, PgnValue};
+use descriptor::{PgnBytes, PgnValue};
 use frame_lines::put_head;
 use reading::{Decoded, Reading};
 use text::{put, put_bytes, put_hex, put_number, put_pairs, put_text, put_value};
@@ -35,15 +35,15 @@ fn put_kind(out: &mut [u8], at: usize, value: PgnValue) -> usize
     )
 }
 
-fn put_encoding(out: &mut [u8], at: usize, e: Encoding) -> usize
-    ensures { Puts out.old at (encoding_text e) out.new result }
+fn put_encoding(out: &mut [u8], at: usize, encoding: Option<u8>) -> usize
+    ensures { Puts out.old at (encoding_text encoding) out.new result }
 {
-    match e {
-        Encoding::Byte(b) => {
+    match encoding {
+        Some(b) => {
             let a = put(out, at, b' ');
             put_pairs(out, a, &[b])
         }
-        Encoding::Absent => put_text(out, at, b" -"),
+        None => put_text(out, at, b" -"),
     }
 }
 

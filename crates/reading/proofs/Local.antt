@@ -5,13 +5,12 @@ use Prim.Native.Nat.{ℕ, ◌+◌, ◌-◌, ◌*◌, ◌/◌, ◌%◌, ◌≤◌
 use native.Mathlib.Omega.{arith}
 use lib.Dec.{eqb, ltb}
 use borrow.Author.Tests.{eqb-false, ltb-false}
-use Rattle.std.specs.Prelude.{Some, Result, Ok}
+use Rattle.std.specs.Prelude.{Some, Result, Ok, None}
 use Rattle.bits.specs.Bits.{pick}
 use Rattle.bits.specs.declared.Room.{Room}
 use Rattle.bits.specs.declared.Room.TheVariants as room
 use Rattle.bits.proofs.Rooms.{whole}
 use Rattle.descriptor.specs.declared.FieldDescriptor.{FieldDescriptor}
-use Rattle.descriptor.specs.declared.Encoding.TheVariants as encoding
 use Rattle.tables.specs.Table.{Table}
 use Rattle.fields.specs.declared.DecodeRefusal.{DecodeRefusal}
 use Rattle.fields.specs.declared.Shape.{Shape}
@@ -100,9 +99,9 @@ module _ (m : ℕ) (b b' : ℕ → ℕ → ℕ) where
     encoding-local : Agree b b' at (at + n) → encoding_in_lem p at n ≡ encoding_in_lem p' at n
     encoding-local a = go (ltb n 16) refl
       where
-        go : (c : Bool) → ltb n 16 ≡ c → pick c encoding.Absent (encoding.Byte (b (at + 8) 8)) ≡ pick c encoding.Absent (encoding.Byte (b' (at + 8) 8))
+        go : (c : Bool) → ltb n 16 ≡ c → pick c None (Some (b (at + 8) 8)) ≡ pick c None (Some (b' (at + 8) 8))
         go true q = refl
-        go false q = let l = ltb-false n 16 q in ap encoding.Byte (a (at + 8) 8 (omega arith) (omega arith))
+        go false q = let l = ltb-false n 16 q in ap Some (a (at + 8) 8 (omega arith) (omega arith))
 
     -- the first byte of a StringFix that has one
     fixed-local : at % 8 ≡ 0 → Agree b b' at (at + n)
@@ -123,7 +122,7 @@ module _ (m : ℕ) (b b' : ℕ → ℕ → ℕ) where
     content-local Lau f e a = (refl, ap (text_at_lem (at / 8 + 2) (n / 8 - 2)) (encoding-local a), refl)
     content-local Lz f e a =
         let l = least-took p at i Lz early w n e in
-        (refl, ap (λ (x : ℕ). text_at_lem (at / 8 + 1) x encoding.Absent) (a at 8 (omega arith) (omega arith)), refl)
+        (refl, ap (λ (x : ℕ). text_at_lem (at / 8 + 1) x None) (a at 8 (omega arith) (omega arith)), refl)
 
   -- a reading is the same in both
   pub reading-local : (t : Table) (v : Span) → Ruled t p v → Agree b b' v.start.0 (past v) → reading_of t p' v ≡ reading_of t p v

@@ -4,8 +4,6 @@ use Rattle.std.specs.Prelude.{ℕ, zero, suc, ◌+◌, ◌-◌, ◌*◌, ◌/◌
 use Rattle.bits.specs.Bits.{pick}
 use Rattle.bits.specs.Calls.{bits, bytes}
 use Rattle.descriptor.specs.declared.Availability.{Availability}
-use Rattle.descriptor.specs.declared.Encoding.{Encoding}
-use Rattle.descriptor.specs.declared.Encoding.TheVariants as encoding
 use Rattle.descriptor.specs.declared.PgnBytes.{PgnBytes}
 use Rattle.descriptor.specs.declared.PgnValue.{PgnValue}
 use Rattle.descriptor.specs.declared.PgnValue.TheVariants.{U64, U32, U16, U8, I64, I32, I16, I8, F64, F32, Bytes}
@@ -47,7 +45,7 @@ raw_mark_lem (Some r) = 1
 
 -- a text's or bytes' place, length and encoding; a number has none
 abbrev pub no_bytes_lem : PgnBytes
-no_bytes_lem = record { start = bytes 0; len = bytes 0; encoding = encoding.Absent }
+no_bytes_lem = record { start = bytes 0; len = bytes 0; encoding = None }
 
 abbrev pub bytes_in_lem : PgnValue → PgnBytes
 bytes_in_lem (U64 n) = no_bytes_lem
@@ -63,9 +61,9 @@ bytes_in_lem (F32 x) = no_bytes_lem
 bytes_in_lem (Bytes b) = b
 
 -- whether there is an encoding byte, and that byte above it
-abbrev pub encoding_mark_lem : Encoding → ℕ
-encoding_mark_lem encoding.Absent = 0
-encoding_mark_lem (encoding.Byte b) = 1 + 2 ^ 8 * b
+abbrev pub encoding_mark_lem : Option ℕ → ℕ
+encoding_mark_lem None = 0
+encoding_mark_lem (Some b) = 1 + 2 ^ 8 * b
 
 -- from the lowest byte on: availability, the value's kind, whether there is a raw, whether there is an encoding byte, the encoding byte
 abbrev pub tag_by : Availability → PgnValue → Option ℕ → ℕ

@@ -5,7 +5,7 @@ ghost use Rattle.records.specs.Puts.{puts};
 
 use crate::layout::put_word;
 use bits::ByteCount;
-use descriptor::{Availability, Encoding, FieldDescriptor, PgnBytes, PgnValue};
+use descriptor::{Availability, FieldDescriptor, PgnBytes, PgnValue};
 use numbers::NumberWords;
 use reading::Reading;
 use walking::Element;
@@ -67,12 +67,12 @@ pub fn raw_mark(raw: Option<u64>) -> u64
     u64::from(raw.is_some())
 }
 
-fn encoding_mark(encoding: Encoding) -> u64
+fn encoding_mark(encoding: Option<u8>) -> u64
     ensures { (result ≡ encoding_mark_lem encoding) × (result ≤ 65281) }
 {
     match encoding {
-        Encoding::Absent => 0,
-        Encoding::Byte(b) => 1 + 256 * (b as u64),
+        None => 0,
+        Some(b) => 1 + 256 * (b as u64),
     }
 }
 
@@ -84,7 +84,7 @@ pub fn bytes_in(value: PgnValue) -> PgnBytes
         return PgnBytes {
             start: ByteCount(0),
             len: ByteCount(0),
-            encoding: Encoding::Absent,
+            encoding: None,
         };
     };
     b

@@ -12,37 +12,37 @@ use lib.Ieee.Fits.{down_pos}
 use lib.Ieee.Exact.{HasValue}
 use lib.Ieee.Nearest.{div_same}
 use borrow.Author.Tests.{lt-ltb, le-ltb}
-use Rattle.rounding.specs.declared.Whole.TheVariants.{TooBig, Fits}
-use Rattle.rounding.specs.Truncation.{below64, truncated_of}
+use Rattle.std.specs.Prelude.{None}
+use Rattle.rounding.specs.Truncation.{cut_to, below64, truncated_of}
 use Rattle.rounding.proofs.Fields.{place, field64, digits64, sign64, units64, Read64, digits64-lt, digits_lt, place-lt, units-from-one}
 
 -- ---- a value of a / c
-pub cut : (y : Float) (s : Bool) (a c : ℕ) → 0 < c → HasValue y s a c → below64 (ltb (a / c) (2 ^ 64)) (Fits s (a / c)) ≡ truncated_of y
+pub cut : (y : Float) (s : Bool) (a c : ℕ) → 0 < c → HasValue y s a c → below64 (ltb (a / c) (2 ^ 64)) (cut_to s (a / c)) ≡ truncated_of y
 unfolding truncated_of
 cut nan s a c P v = absurd v
 cut (inf r) s a c P v = absurd v
 cut (fin r m e) s a c P v =
-    ap (λ (x : ℕ). below64 (ltb x (2 ^ 64)) (Fits s x)) (sym (div_same (m * up e) (down e) a c (down_pos e) P v.1))
-    ∙ ap (λ (b : Bool). below64 (ltb (m * up e / down e) (2 ^ 64)) (Fits b (m * up e / down e))) (sym v.0)
+    ap (λ (x : ℕ). below64 (ltb x (2 ^ 64)) (cut_to s x)) (sym (div_same (m * up e) (down e) a c (down_pos e) P v.1))
+    ∙ ap (λ (b : Bool). below64 (ltb (m * up e / down e) (2 ^ 64)) (cut_to b (m * up e / down e))) (sym v.0)
 
 -- ---- an `f64` by its fields
 module _ (y : Float) (v : Read64 y) where
   abbrev quotient : ℕ
   quotient = units64 (field64 y) (digits64 y) / 2 ^ 1074
 
-  as-quotient : below64 (ltb quotient (2 ^ 64)) (Fits (sign64 y) quotient) ≡ truncated_of y
+  as-quotient : below64 (ltb quotient (2 ^ 64)) (cut_to (sign64 y) quotient) ≡ truncated_of y
   as-quotient = cut y (sign64 y) (units64 (field64 y) (digits64 y)) (2 ^ 1074) (pow_pos 1074) v
 
-  fits-as : (x : ℕ) → quotient ≡ x → x < 2 ^ 64 → Fits (sign64 y) x ≡ truncated_of y
+  fits-as : (x : ℕ) → quotient ≡ x → x < 2 ^ 64 → cut_to (sign64 y) x ≡ truncated_of y
   fits-as x e h =
-      ap (λ (b : Bool). below64 b (Fits (sign64 y) x)) (sym (lt-ltb x (2 ^ 64) h))
-      ∙ ap (λ (q : ℕ). below64 (ltb q (2 ^ 64)) (Fits (sign64 y) q)) (sym e)
+      ap (λ (b : Bool). below64 b (cut_to (sign64 y) x)) (sym (lt-ltb x (2 ^ 64) h))
+      ∙ ap (λ (q : ℕ). below64 (ltb q (2 ^ 64)) (cut_to (sign64 y) q)) (sym e)
       ∙ as-quotient
 
   hi : 2 ^ 52 + digits64 y < 2 ^ 53
   hi = digits_lt 1 (digits64 y) (digits64-lt y)
 
-  pub below_one : field64 y < 1023 → Fits (sign64 y) 0 ≡ truncated_of y
+  pub below_one : field64 y < 1023 → cut_to (sign64 y) 0 ≡ truncated_of y
   below_one h =
       let E = field64 y in
       let under = shl_lt 53 (place E) (digits_lt E (digits64 y) (digits64-lt y)) in
@@ -54,7 +54,7 @@ module _ (y : Float) (v : Read64 y) where
       room : (k : ℕ) → k < 1022 → 53 + k ≤ 1074
       room k u = omega arith
 
-  pub shift-right : 1023 ≤ field64 y → field64 y ≤ 1075 → Fits (sign64 y) ((2 ^ 52 + digits64 y) / 2 ^ (1075 - field64 y)) ≡ truncated_of y
+  pub shift-right : 1023 ≤ field64 y → field64 y ≤ 1075 → cut_to (sign64 y) ((2 ^ 52 + digits64 y) / 2 ^ (1075 - field64 y)) ≡ truncated_of y
   shift-right h g =
       let E = field64 y in
       let D = 2 ^ 52 + digits64 y in
@@ -73,7 +73,7 @@ module _ (y : Float) (v : Read64 y) where
       room : (E : ℕ) → E ≤ 1086 → 53 + (E - 1075) ≤ 64
       room E u = omega arith
 
-  pub shift-left : 1075 < field64 y → field64 y ≤ 1086 → Fits (sign64 y) ((2 ^ 52 + digits64 y) * 2 ^ (field64 y - 1075)) ≡ truncated_of y
+  pub shift-left : 1075 < field64 y → field64 y ≤ 1086 → cut_to (sign64 y) ((2 ^ 52 + digits64 y) * 2 ^ (field64 y - 1075)) ≡ truncated_of y
   shift-left h g =
       let E = field64 y in
       let D = 2 ^ 52 + digits64 y in
@@ -86,8 +86,8 @@ module _ (y : Float) (v : Read64 y) where
       sum : (E : ℕ) → 1075 < E → E - 1 ≡ E - 1075 + 1074
       sum E u = omega arith
 
-  pub beyond : 1086 < field64 y → TooBig ≡ truncated_of y
-  beyond h = ap (λ (b : Bool). below64 b (Fits (sign64 y) quotient)) (sym (le-ltb quotient (2 ^ 64) large)) ∙ as-quotient
+  pub beyond : 1086 < field64 y → None ≡ truncated_of y
+  beyond h = ap (λ (b : Bool). below64 b (cut_to (sign64 y) quotient)) (sym (le-ltb quotient (2 ^ 64) large)) ∙ as-quotient
     where
       room : (E : ℕ) → 1086 < E → 1138 ≤ 52 + (E - 1)
       room E u = omega arith

@@ -22,11 +22,10 @@ pub use crate::integers::{
 pub use crate::patterns::{bits_of_f32, bits_of_f64, f32_of_bits, f64_of_bits};
 pub use crate::truncation::{half_away, truncated_bits};
 
-// A float without its fraction.
+// A float without its fraction. `negative` is the float's sign, also where the magnitude is 0, as of
+// -0.0 and -0.4.
 #[derive(Clone, Copy)]
-pub enum Whole {
-    // A NaN, an infinity, or a magnitude of 2^64 or more.
-    TooBig,
-    // `negative` is the float's sign, also where the magnitude is 0, as of -0.0 and -0.4.
-    Fits { negative: bool, magnitude: u64 },
+pub struct Truncated {
+    pub negative: bool,
+    pub magnitude: u64,
 }

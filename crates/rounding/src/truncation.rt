@@ -2,7 +2,7 @@
 ghost use Rattle.std.specs.Prelude.{◌≡◌};
 ghost use Rattle.rounding.specs.Truncation.{half_away_of, truncated_of};
 
-use crate::Whole;
+use crate::Truncated;
 use crate::layout::{EXPONENTS_F64, LEAD_F64, SIGN_F64};
 use halves::{left, right};
 
@@ -20,34 +20,35 @@ pub fn half_away(q: f64) -> f64
     if q >= 0.0 { q + 0.5 } else { q - 0.5 }
 }
 
-// y cut toward zero, worked out from its bits: the digits of the fraction are shifted out.
-pub fn truncated_bits(y: f64) -> Whole
+// y cut toward zero, worked out from its bits: the digits of the fraction are shifted out. None of a
+// NaN, an infinity, or a magnitude of 2^64 or more.
+pub fn truncated_bits(y: f64) -> Option<Truncated>
     ensures { result ≡ truncated_of y }
 {
     if y != y {
-        return Whole::TooBig;
+        return None;
     }
     let b = f64::to_bits(y);
     let e = b / LEAD_F64 % EXPONENTS_F64;
     let negative = b >= SIGN_F64;
     if e < AT_ONE {
-        return Whole::Fits {
+        return Some(Truncated {
             negative,
             magnitude: 0,
-        };
+        });
     }
     let d = LEAD_F64 + b % LEAD_F64;
     if e <= AT_WHOLE {
-        return Whole::Fits {
+        return Some(Truncated {
             negative,
             magnitude: right(d, (AT_WHOLE - e) as usize),
-        };
+        });
     }
     if e <= LAST_FITTING {
-        return Whole::Fits {
+        return Some(Truncated {
             negative,
             magnitude: left(d, (e - AT_WHOLE) as usize),
-        };
+        });
     }
-    Whole::TooBig
+    None
 }

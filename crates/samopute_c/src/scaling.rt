@@ -6,7 +6,6 @@ ghost use Rattle.samopute_c.specs.Values.{field_of, scale_status, scaled_cells, 
 
 use crate::worded::{field_of, raw_of};
 use descriptor::FieldDescriptor;
-use numbers::{Holds, RawOf};
 
 // Lays out the value of a raw in a field that holds a number.
 fn tell_scaled(answer: &mut [u64; 4], f: FieldDescriptor, raw: u64) -> u32
@@ -38,14 +37,10 @@ pub fn samopute_scale(
 {
     let f = field_of(kind, width, is_signed, mark, resolution);
     match numbers::holds_number(f) {
-        Holds::Number => tell_scaled(answer, f, raw),
-        Holds::NoNumber => {
-            *answer = [0, 0, 0, 0];
-            11
-        }
-        Holds::BadWidth(w) => {
-            *answer = [64, w as u64, 0, 0];
-            1
+        Ok(()) => tell_scaled(answer, f, raw),
+        Err(refusal) => {
+            *answer = [refusal.carried(0) as u64, refusal.carried(1) as u64, 0, 0];
+            refusal.number()
         }
     }
 }
@@ -73,9 +68,12 @@ pub fn samopute_raw_of(
 {
     let f = field_of(kind, width, is_signed, mark, resolution);
     match raw_of(f, offers::offer_of(value_kind, value)) {
-        RawOf::Raw(raw) => tell_raw(answer, raw, 0, 0),
-        RawOf::BadWidth(w) => tell_raw(answer, 64, w as u64, 1),
-        RawOf::OutOfRange => tell_raw(answer, 0, 0, 10),
-        RawOf::WrongKind => tell_raw(answer, 0, 0, 11),
+        Ok(raw) => tell_raw(answer, raw, 0, 0),
+        Err(refusal) => tell_raw(
+            answer,
+            refusal.carried(0) as u64,
+            refusal.carried(1) as u64,
+            refusal.number(),
+        ),
     }
 }

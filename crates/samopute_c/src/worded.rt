@@ -3,7 +3,7 @@ ghost use Rattle.std.specs.Prelude.{◌≡◌};
 ghost use Rattle.samopute_c.specs.Values.{field_of, raw_offered};
 
 use descriptor::FieldDescriptor;
-use numbers::RawOf;
+use numbers::NumberRefusal;
 use offers::Offer;
 
 pub(crate) fn field_of(kind: u32, width: u32, sign: u32, mark: u32, bits: u32) -> FieldDescriptor
@@ -20,11 +20,11 @@ pub(crate) fn field_of(kind: u32, width: u32, sign: u32, mark: u32, bits: u32) -
 }
 
 // The raw of what is offered: what is no value of any kind is one of another kind.
-pub(crate) fn raw_of(f: FieldDescriptor, offer: Offer) -> RawOf
+pub(crate) fn raw_of(f: FieldDescriptor, offer: Offer) -> Result<u64, NumberRefusal>
     ensures { result ≡ raw_offered f offer }
 {
     let Offer::Value(value) = offer else {
-        return RawOf::WrongKind;
+        return Err(NumberRefusal::WrongKind);
     };
     numbers::number_to_raw(f, value)
 }

@@ -3,8 +3,7 @@ use mathlib.Core.Path.{◌≡◌, ap}
 use mathlib.Core.List.{List, [], ◌∷◌}
 use Prim.Native.Nat.{ℕ, ◌+◌, ◌*◌, ◌^◌}
 use native.Mathlib.Omega.{arith}
-use Rattle.descriptor.specs.declared.Encoding.{Encoding}
-use Rattle.descriptor.specs.declared.Encoding.TheVariants.{Absent, Byte}
+use Rattle.std.specs.Prelude.{Option, Some, None}
 use Rattle.reading.specs.declared.Reading.{Reading}
 use Rattle.numbers.specs.Words.{code_of, silence_of_lem}
 use Rattle.records.specs.Layout.{laid, raw_mark_lem, encoding_mark_lem, bytes_in_lem, record_of_lem}
@@ -20,9 +19,9 @@ tag_in s =
 abbrev pub numbers_in : Record → List ℕ
 numbers_in s = s.field ∷ s.element ∷ s.start ∷ s.bits ∷ tag_in s ∷ s.raw ∷ s.value ∷ s.length ∷ []
 
-marks : (a b c : ℕ) (e : Encoding) → a + 2 ^ 8 * b + 2 ^ 16 * c + 2 ^ 24 * encoding_given e + 2 ^ 32 * encoding_byte e + 2 ^ 40 * 0 + 2 ^ 48 * 0 + 2 ^ 56 * 0 ≡ a + 2 ^ 8 * b + 2 ^ 16 * c + 2 ^ 24 * encoding_mark_lem e
-marks a b c Absent = omega arith
-marks a b c (Byte x) = omega arith
+marks : (a b c : ℕ) (e : Option ℕ) → a + 2 ^ 8 * b + 2 ^ 16 * c + 2 ^ 24 * encoding_given e + 2 ^ 32 * encoding_byte e + 2 ^ 40 * 0 + 2 ^ 48 * 0 + 2 ^ 56 * 0 ≡ a + 2 ^ 8 * b + 2 ^ 16 * c + 2 ^ 24 * encoding_mark_lem e
+marks a b c None = omega arith
+marks a b c (Some x) = omega arith
 
 pub same_bytes : (r : Reading) → laid (numbers_in (struct_of r)) ≡ laid (record_of_lem r)
 same_bytes r =

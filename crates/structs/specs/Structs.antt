@@ -1,7 +1,5 @@
 -- A reading as a C struct. It is no part of document 01, which leaves the boundary's layout open: include/samopute.h says the same in C.
-use Rattle.std.specs.Prelude.{ℕ, List, [], ◌∷◌, length}
-use Rattle.descriptor.specs.declared.Encoding.{Encoding}
-use Rattle.descriptor.specs.declared.Encoding.TheVariants.{Absent, Byte}
+use Rattle.std.specs.Prelude.{ℕ, List, [], ◌∷◌, length, Option, Some, None}
 use Rattle.numbers.specs.Words.{code_of, silence_of_lem}
 use Rattle.tables.specs.Table.{Table}
 use Rattle.reading.specs.declared.Reading.{Reading}
@@ -11,13 +9,13 @@ use Rattle.records.specs.Layout.{element_word_lem, raw_word_lem, raw_mark_lem, b
 use Rattle.structs.specs.declared.Record.{Record}
 
 -- whether there is an encoding byte, and that byte
-abbrev pub encoding_given : Encoding → ℕ
-encoding_given Absent = 0
-encoding_given (Byte b) = 1
+abbrev pub encoding_given : Option ℕ → ℕ
+encoding_given None = 0
+encoding_given (Some b) = 1
 
-abbrev pub encoding_byte : Encoding → ℕ
-encoding_byte Absent = 0
-encoding_byte (Byte b) = b
+abbrev pub encoding_byte : Option ℕ → ℕ
+encoding_byte None = 0
+encoding_byte (Some b) = b
 
 -- the struct of a reading: the words of its record, the fifth taken apart
 abbrev pub struct_of : Reading → Record

@@ -4,7 +4,7 @@ ghost use Rattle.numbers.specs.Words.{code_of, silence_of_lem};
 ghost use Rattle.records.specs.Layout.{raw_mark_lem};
 ghost use Rattle.structs.specs.Structs.{encoding_given, encoding_byte};
 
-use descriptor::{Availability, Encoding, PgnValue};
+use descriptor::{Availability, PgnValue};
 
 pub(crate) fn availability(a: Availability) -> u8
     ensures { result ≡ silence_of_lem a }
@@ -24,20 +24,14 @@ pub(crate) fn has_raw(raw: Option<u64>) -> u8
     records::raw_mark(raw) as u8
 }
 
-pub(crate) fn has_encoding(encoding: Encoding) -> u8
+pub(crate) fn has_encoding(encoding: Option<u8>) -> u8
     ensures { result ≡ encoding_given encoding }
 {
-    match encoding {
-        Encoding::Absent => 0,
-        Encoding::Byte(_) => 1,
-    }
+    encoding.is_some() as u8
 }
 
-pub(crate) fn encoding(encoding: Encoding) -> u8
+pub(crate) fn encoding(encoding: Option<u8>) -> u8
     ensures { result ≡ encoding_byte encoding }
 {
-    match encoding {
-        Encoding::Absent => 0,
-        Encoding::Byte(b) => b,
-    }
+    encoding.unwrap_or(0)
 }

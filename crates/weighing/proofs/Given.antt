@@ -1,6 +1,6 @@
 -- "No refusal is given otherwise", of one value in a field of an accepted table, in a buffer of 223 bytes at most: 2, 3, 10, 11 or 13, never 1 or 6.
 -- Assumes nothing.
-use Rattle.std.specs.Prelude.{Result, Ok, Err}
+use Rattle.std.specs.Prelude.{Result, Ok, Err, Option, Some, None}
 use mathlib.Core.Path.{◌≡◌, refl, sym, ap, ◌∙◌}
 use mathlib.Core.Bool.{Bool, true, false, not}
 use Prim.Native.Nat.{ℕ, ◌+◌, ◌*◌, ◌/◌, ◌%◌, ◌≤◌, ◌<◌}
@@ -9,19 +9,15 @@ use Rattle.weighing.specs.declared.EncodeRefusal.{EncodeRefusal}
 use Rattle.bits.specs.Bits.{pick}
 use Rattle.bits.specs.Calls.{bits, room_of, width_max}
 use Rattle.bits.specs.declared.Room.{Room}
-use Rattle.descriptor.specs.declared.Encoding.{Encoding}
-use Rattle.descriptor.specs.declared.Encoding.TheVariants as encoding
 use Rattle.descriptor.specs.declared.FieldDescriptor.{FieldDescriptor}
 use Rattle.descriptor.specs.declared.PgnBytes.{PgnBytes}
 use Rattle.descriptor.specs.declared.PgnValue.{PgnValue}
 use Rattle.descriptor.specs.declared.PgnValue.TheVariants.{U64, U32, U16, U8, I64, I32, I16, I8, F64, F32, Bytes}
 use Rattle.numbers.specs.Holds.{holds_of}
 use Rattle.numbers.specs.Conversions.{held_raw_of, if_held, raw_of_lem}
-use Rattle.numbers.specs.declared.Holds.{Holds}
-use Rattle.numbers.specs.declared.Holds.TheVariants as holds
 use Rattle.numbers.proofs.Fitting.{no-width}
-use Rattle.numbers.specs.declared.RawOf.{RawOf}
-use Rattle.numbers.specs.declared.RawOf.TheVariants as raw
+use Rattle.numbers.specs.declared.NumberRefusal.{NumberRefusal}
+use Rattle.numbers.specs.declared.NumberRefusal.TheVariants as number
 use Rattle.tables.specs.Table.{Table}
 use Rattle.tables.specs.Check.{check_of, payload_max}
 use Rattle.fields.specs.declared.Shape.{Shape}
@@ -52,15 +48,15 @@ either : (b : Bool) (x y : Result Weighed EncodeRefusal) → Given x → Given y
 either true x y h k = h
 either false x y h k = k
 
-number-given : (x : RawOf) (i size at w : ℕ) → ((n : ℕ) → x ≡ raw.BadWidth n → ⊥) → Fair (room_of size at w width_max) → Given (number_by x i size at w)
-number-given (raw.Raw r) i size at w h f = at_field i (Ok (Number (bits w) r)) f tt
-number-given (raw.BadWidth n) i size at w h f = absurd (h n refl)
-number-given raw.OutOfRange i size at w h f = refl
-number-given raw.WrongKind i size at w h f = refl
+number-given : (x : Result ℕ NumberRefusal) (i size at w : ℕ) → ((n : ℕ) → x ≡ Err (number.BadWidth n) → ⊥) → Fair (room_of size at w width_max) → Given (number_by x i size at w)
+number-given (Ok r) i size at w h f = at_field i (Ok (Number (bits w) r)) f tt
+number-given (Err (number.BadWidth n)) i size at w h f = absurd (h n refl)
+number-given (Err number.OutOfRange) i size at w h f = refl
+number-given (Err number.WrongKind) i size at w h f = refl
 
 -- a field that holds a number has a width
-sized : (f : FieldDescriptor) (v : PgnValue) → holds_of f ≡ holds.Number → (n : ℕ) → raw_of_lem f v ≡ raw.BadWidth n → ⊥
-sized f v h n e = no-width f v n (sym (ap (λ (x : Holds). if_held x (held_raw_of f v)) h) ∙ e)
+sized : (f : FieldDescriptor) (v : PgnValue) → holds_of f ≡ Ok tt → (n : ℕ) → raw_of_lem f v ≡ Err (number.BadWidth n) → ⊥
+sized f v h n e = no-width f v n (sym (ap (λ (x : Result (Unit {0}) NumberRefusal). if_held x (held_raw_of f v)) h) ∙ e)
 
 -- ## Text and bytes
 
@@ -75,13 +71,13 @@ module _ (b : PgnBytes) (i lent size at : ℕ) where
       room : Given (if_room_lem i size at n (Ok (Text (bits n) lead b)))
       room = either (ltb (size * 8) (at + n)) _ (Ok (Text (bits n) lead b)) refl tt
 
-  bare-given : (e : Encoding) (w : Result Weighed EncodeRefusal) → Given w → Given (unencoded e i w)
-  bare-given encoding.Absent w h = h
-  bare-given (encoding.Byte x) w h = refl
+  bare-given : (e : Option ℕ) (w : Result Weighed EncodeRefusal) → Given w → Given (unencoded e i w)
+  bare-given None w h = h
+  bare-given (Some x) w h = refl
 
-  lau-given : (e : Encoding) → Given (lau_by e b i lent size at)
-  lau-given encoding.Absent = either (eqb b.len.0 0) _ _ (text-given false false 0 8 Empty) refl
-  lau-given (encoding.Byte x) = text-given (ltb text_max b.len.0) (not (eqb b.len.0 0)) 16 (16 + 8 * b.len.0) (Encoded x)
+  lau-given : (e : Option ℕ) → Given (lau_by e b i lent size at)
+  lau-given None = either (eqb b.len.0 0) _ _ (text-given false false 0 8 Empty) refl
+  lau-given (Some x) = text-given (ltb text_max b.len.0) (not (eqb b.len.0 0)) 16 (16 + 8 * b.len.0) (Encoded x)
 
 bytes-given : (v : PgnValue) (i : ℕ) (says : PgnBytes → Result Weighed EncodeRefusal) → ((b : PgnBytes) → Given (says b)) → Given (by_bytes v i says)
 bytes-given (Bytes b) i says h = h b
@@ -98,7 +94,7 @@ bytes-given (F32 x) i says h = refl
 
 -- ## A field
 
-shape-given : (sh : Shape) (f : FieldDescriptor) (i : ℕ) (v : PgnValue) (lent size at : ℕ) → (is_number sh ≡ true → holds_of f ≡ holds.Number)
+shape-given : (sh : Shape) (f : FieldDescriptor) (i : ℕ) (v : PgnValue) (lent size at : ℕ) → (is_number sh ≡ true → holds_of f ≡ Ok tt)
     → (in_bits sh ≡ true → Fair (room_of size at f.width width_max)) → Given (weighed_by sh f i v lent size at)
 shape-given (shape.Number strict) f i v lent size at k h = number-given (raw_of_lem f v) i size at f.width (sized f v (k refl)) (h refl)
 shape-given shape.Gap f i v lent size at k h = at_field i (Ok (Gap (bits f.width))) (h refl) tt

@@ -1,21 +1,19 @@
 -- What comes of a value in a field before a bit is written: document 01, "Writing a payload", and "At an encoded field: 12,
 -- 11, 10 or 13, 3, 2", of which 12 is asked before.
-use Rattle.std.specs.Prelude.{ℕ, ◌+◌, ◌-◌, ◌*◌, ◌/◌, ◌%◌, Bool, true, false, not, ◌||◌, eqb, ltb, Result, Ok, Err}
+use Rattle.std.specs.Prelude.{ℕ, ◌+◌, ◌-◌, ◌*◌, ◌/◌, ◌%◌, Bool, true, false, not, ◌||◌, eqb, ltb, Result, Ok, Err, Option, Some, None}
 use Rattle.weighing.specs.declared.EncodeRefusal.{EncodeRefusal}
 use Rattle.bits.specs.Bits.{pick}
 use Rattle.bits.specs.Calls.{bits, bytes, saturated, room_of, width_max}
 use Rattle.bits.specs.declared.BitRefusal.TheVariants.{TooLongForType, NonAlignedBit, OutOfBits}
 use Rattle.bits.specs.declared.Room.{Room}
 use Rattle.bits.specs.declared.Room.TheVariants as room
-use Rattle.descriptor.specs.declared.Encoding.{Encoding}
-use Rattle.descriptor.specs.declared.Encoding.TheVariants as encoding
 use Rattle.descriptor.specs.declared.FieldDescriptor.{FieldDescriptor}
 use Rattle.descriptor.specs.declared.PgnBytes.{PgnBytes}
 use Rattle.descriptor.specs.declared.PgnValue.{PgnValue}
 use Rattle.descriptor.specs.declared.PgnValue.TheVariants.{U64, U32, U16, U8, I64, I32, I16, I8, F64, F32, Bytes}
 use Rattle.numbers.specs.Conversions.{raw_of_lem}
-use Rattle.numbers.specs.declared.RawOf.{RawOf}
-use Rattle.numbers.specs.declared.RawOf.TheVariants as raw
+use Rattle.numbers.specs.declared.NumberRefusal.{NumberRefusal}
+use Rattle.numbers.specs.declared.NumberRefusal.TheVariants as number
 use Rattle.fields.specs.declared.Shape.{Shape}
 use Rattle.fields.specs.declared.Shape.TheVariants as shape
 use Rattle.fields.specs.Shapes.{shape_of}
@@ -48,11 +46,11 @@ if_aligned_lem i at lead w = pick (eqb (at % 8) 0) w (Err (BitWriteError i (NonA
 -- ## Numbers, and bits that stay ones
 
 -- a number of the field's width; 1 where it is none, which no accepted table has
-abbrev pub number_by : RawOf → ℕ → ℕ → ℕ → ℕ → Result Weighed EncodeRefusal
-number_by (raw.Raw r) i size at w = at_field_lem (room_of size at w width_max) i (Ok (Number (bits w) r))
-number_by (raw.BadWidth n) i size at w = Err (BitWriteError i (TooLongForType width_max n))
-number_by raw.OutOfRange i size at w = Err (OutOfRange i)
-number_by raw.WrongKind i size at w = Err (WrongKind i)
+abbrev pub number_by : Result ℕ NumberRefusal → ℕ → ℕ → ℕ → ℕ → Result Weighed EncodeRefusal
+number_by (Ok r) i size at w = at_field_lem (room_of size at w width_max) i (Ok (Number (bits w) r))
+number_by (Err (number.BadWidth n)) i size at w = Err (BitWriteError i (TooLongForType width_max n))
+number_by (Err number.OutOfRange) i size at w = Err (OutOfRange i)
+number_by (Err number.WrongKind) i size at w = Err (WrongKind i)
 
 -- "Skipped fields stay ones", and take no value
 abbrev pub gap_of : FieldDescriptor → ℕ → ℕ → ℕ → Result Weighed EncodeRefusal
@@ -71,9 +69,9 @@ text_by b i lent size at over aligned put n lead =
     (pick aligned (if_aligned_lem i at put (if_room_lem i size at n (Ok (Text (bits n) lead b)))) (if_room_lem i size at n (Ok (Text (bits n) lead b))))
 
 -- "Only LAU takes an encoding byte"
-abbrev pub unencoded : Encoding → ℕ → Result Weighed EncodeRefusal → Result Weighed EncodeRefusal
-unencoded encoding.Absent i w = w
-unencoded (encoding.Byte x) i w = Err (WrongKind i)
+abbrev pub unencoded : Option ℕ → ℕ → Result Weighed EncodeRefusal → Result Weighed EncodeRefusal
+unencoded None i w = w
+unencoded (Some x) i w = Err (WrongKind i)
 
 -- "StringFix is filled with 0xFF"; it always needs alignment
 abbrev pub fixed_of : PgnBytes → ℕ → ℕ → ℕ → ℕ → ℕ → Result Weighed EncodeRefusal
@@ -89,9 +87,9 @@ lz_of b i lent size at =
     unencoded b.encoding i (text_by b i lent size at (ltb text_max b.len.0) (not (eqb b.len.0 0)) 8 (16 + 8 * b.len.0) Counted)
 
 -- "without [an encoding byte] it takes only empty text (absent): else 11. It writes length, encoding, text, up to 221; absent writes 1"
-abbrev pub lau_by : Encoding → PgnBytes → ℕ → ℕ → ℕ → ℕ → Result Weighed EncodeRefusal
-lau_by encoding.Absent b i lent size at = pick (eqb b.len.0 0) (text_by b i lent size at false false 0 8 Empty) (Err (WrongKind i))
-lau_by (encoding.Byte x) b i lent size at =
+abbrev pub lau_by : Option ℕ → PgnBytes → ℕ → ℕ → ℕ → ℕ → Result Weighed EncodeRefusal
+lau_by None b i lent size at = pick (eqb b.len.0 0) (text_by b i lent size at false false 0 8 Empty) (Err (WrongKind i))
+lau_by (Some x) b i lent size at =
     text_by b i lent size at (ltb text_max b.len.0) (not (eqb b.len.0 0)) 16 (16 + 8 * b.len.0) (Encoded x)
 
 -- of a value that is text or bytes; any other is 11

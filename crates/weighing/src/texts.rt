@@ -6,7 +6,7 @@ ghost use Rattle.weighing.specs.Weigh.{text_by, fixed_of, whole_of, lz_of, lau_b
 
 use crate::{EncodeRefusal, Lead, Weighed};
 use bits::{BitPos, BitRefusal};
-use descriptor::{Encoding, PgnBytes, PgnValue};
+use descriptor::{PgnBytes, PgnValue};
 
 const TEXT_MAX: usize = 221;
 
@@ -104,7 +104,7 @@ impl Site {
         let PgnValue::Bytes(b) = value else {
             return Err(self.wrong_kind());
         };
-        let Encoding::Absent = b.encoding else {
+        let None = b.encoding else {
             return Err(self.wrong_kind());
         };
         let whole = (width as usize) / 8;
@@ -117,7 +117,7 @@ impl Site {
         let PgnValue::Bytes(b) = value else {
             return Err(self.wrong_kind());
         };
-        let Encoding::Absent = b.encoding else {
+        let None = b.encoding else {
             return Err(self.wrong_kind());
         };
         let w = width as usize;
@@ -130,7 +130,7 @@ impl Site {
         let PgnValue::Bytes(b) = value else {
             return Err(self.wrong_kind());
         };
-        let Encoding::Absent = b.encoding else {
+        let None = b.encoding else {
             return Err(self.wrong_kind());
         };
         let len = b.len.0;
@@ -146,9 +146,9 @@ impl Site {
         };
         let len = b.len.0;
         match b.encoding {
-            Encoding::Absent if len == 0 => self.text(b, false, false, 0, 8, Lead::Empty),
-            Encoding::Absent => Err(self.wrong_kind()),
-            Encoding::Byte(x) => {
+            None if len == 0 => self.text(b, false, false, 0, 8, Lead::Empty),
+            None => Err(self.wrong_kind()),
+            Some(x) => {
                 let n = 16 + 8 * len.min(TEXT_MAX);
                 self.text(b, TEXT_MAX < len, len != 0, 16, n, Lead::Encoded(x))
             }

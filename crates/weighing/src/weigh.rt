@@ -8,7 +8,7 @@ use crate::{EncodeRefusal, Weighed};
 use bits::{BitPos, BitRefusal, ByteCount, Room};
 use descriptor::{FieldDescriptor, PgnValue};
 use fields::Shape;
-use numbers::RawOf;
+use numbers::NumberRefusal;
 
 // A number.
 fn number(
@@ -21,7 +21,7 @@ fn number(
     ensures { result ≡ number_by (raw_of_lem f value) i size at f.width }
 {
     match numbers::number_to_raw(f, value) {
-        RawOf::Raw(raw) => {
+        Ok(raw) => {
             let bits = BitPos(f.width as usize);
             at_field(
                 bits::room_for(size, at, f.width, 64),
@@ -29,12 +29,12 @@ fn number(
                 Weighed::Number { bits, raw },
             )
         }
-        RawOf::BadWidth(asked) => Err(EncodeRefusal::BitWriteError {
+        Err(NumberRefusal::BadWidth(asked)) => Err(EncodeRefusal::BitWriteError {
             field: i,
             refusal: BitRefusal::TooLongForType { max: 64, asked },
         }),
-        RawOf::OutOfRange => Err(EncodeRefusal::OutOfRange { field: i }),
-        RawOf::WrongKind => Err(EncodeRefusal::WrongKind { field: i }),
+        Err(NumberRefusal::OutOfRange) => Err(EncodeRefusal::OutOfRange { field: i }),
+        Err(NumberRefusal::WrongKind) => Err(EncodeRefusal::WrongKind { field: i }),
     }
 }
 

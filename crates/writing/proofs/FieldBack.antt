@@ -13,14 +13,12 @@ use borrow.Author.Tests.{le-ltb}
 use Rattle.bits.specs.Bits.{pick}
 use Rattle.bits.specs.Calls.{bits}
 use Rattle.bits.specs.declared.BitPos.{BitPos}
-use Rattle.descriptor.specs.declared.Encoding.TheVariants as encoding
 use Rattle.descriptor.specs.declared.FieldDescriptor.{FieldDescriptor}
 use Rattle.descriptor.specs.declared.PgnBytes.{PgnBytes}
 use Rattle.descriptor.specs.declared.PgnValue.{PgnValue}
 use Rattle.descriptor.specs.declared.PgnValue.TheVariants.{Bytes}
 use Rattle.numbers.specs.Conversions.{raw_of_lem}
 use Rattle.numbers.specs.Scaling.{scale_of}
-use Rattle.numbers.specs.declared.RawOf.TheVariants as rawed
 use Rattle.tables.specs.Table.{Table}
 use Rattle.tables.specs.Check.{payload_max}
 use Rattle.walking.specs.declared.Element.{Element}
@@ -60,9 +58,9 @@ pub data ReadsAs (f : FieldDescriptor) (x : Result FieldRead DecodeRefusal) : Re
   as-refused : {e : EncodeRefusal} → ReadsAs f x (Err e)
 
 -- `G` is what is known of a value that is offered: its raw has no bit past the field's width, its encoding byte is a byte
-module _ (G : PgnValue → Type 0) (byte_fits : (b : PgnBytes) (x : ℕ) → G (Bytes b) → b.encoding ≡ encoding.Byte x → x < 256)
+module _ (G : PgnValue → Type 0) (byte_fits : (b : PgnBytes) (x : ℕ) → G (Bytes b) → b.encoding ≡ Some x → x < 256)
     (p : Payload) (small : p.size ≤ payload_max) (lent : List ℕ) (bytes : AllBytes lent) where
-  module _ (f : FieldDescriptor) (fits : (v : PgnValue) (r : ℕ) → G v → raw_of_lem f v ≡ rawed.Raw r → f.width ≤ 64 → r < 2 ^ f.width) (e : Element) (i at : ℕ) where
+  module _ (f : FieldDescriptor) (fits : (v : PgnValue) (r : ℕ) → G v → raw_of_lem f v ≡ Ok r → f.width ≤ 64 → r < 2 ^ f.width) (e : Element) (i at : ℕ) where
     abbrev M : Shape → Result Weighed EncodeRefusal → Type 0
     M = Meant G f (length lent) at
 
@@ -102,7 +100,7 @@ module _ (G : PgnValue → Type 0) (byte_fits : (b : PgnBytes) (x : ℕ) → G (
     takes last refused h k = absurd k
 
     -- the raw is the one that was written
-    raw-in : (v : PgnValue) (r : ℕ) → G v → raw_of_lem f v ≡ rawed.Raw r → f.width ≤ 64 → H (Ok (Number (bits f.width) r)) → p.bits at f.width ≡ r
+    raw-in : (v : PgnValue) (r : ℕ) → G v → raw_of_lem f v ≡ Ok r → f.width ≤ 64 → H (Ok (Number (bits f.width) r)) → p.bits at f.width ≡ r
     raw-in v r g q m h = h.inked ∙ mod-eq_of_lt (fits v r g q m)
 
     raw-is : {sh : Shape} {n : BitPos} {r : ℕ} → M sh (Ok (Number n r)) → H (Ok (Number n r)) → p.bits at n.0 ≡ r
@@ -159,8 +157,8 @@ module _ (G : PgnValue → Type 0) (byte_fits : (b : PgnBytes) (x : ℕ) → G (
         (part_bytes b.start.0 b.len.0 lent bytes)
         (stand-tail p (at + 8) (at + 16) x text z (lau-rest b x h))
 
-    lau-encoding : (b : PgnBytes) (x : ℕ) → x < 256 → H (Ok (Text (bits (16 + 8 * b.len.0)) (Encoded x) b)) → encoding_in_lem p at (16 + 8 * b.len.0) ≡ encoding.Byte x
-    lau-encoding b x l h = rw (le-ltb (16 + 8 * b.len.0) 16 (omega arith)) (ap encoding.Byte (stand-head p (at + 8) x (text_in_lem lent b) l (lau-rest b x h)))
+    lau-encoding : (b : PgnBytes) (x : ℕ) → x < 256 → H (Ok (Text (bits (16 + 8 * b.len.0)) (Encoded x) b)) → encoding_in_lem p at (16 + 8 * b.len.0) ≡ Some x
+    lau-encoding b x l h = rw (le-ltb (16 + 8 * b.len.0) 16 (omega arith)) (ap Some (stand-head p (at + 8) x (text_in_lem lent b) l (lau-rest b x h)))
 
     -- a reading of it
     is-back : (r : Reading) {sh : Shape} {w : Result Weighed EncodeRefusal} → M sh w → H w → Kept w → r.raw ≡ raw_in sh p at (size_of w).0 → r.value ≡ value_in sh f p at (size_of w).0 → Back p lent r w
@@ -178,8 +176,8 @@ module _ (G : PgnValue → Type 0) (byte_fits : (b : PgnBytes) (x : ℕ) → G (
 
 -- ## Of a table
 
-module _ (G : PgnValue → Type 0) (byte_fits : (b : PgnBytes) (x : ℕ) → G (Bytes b) → b.encoding ≡ encoding.Byte x → x < 256)
-    (t : Table) (raw-fits : (i : ℕ) → i < t.count → (v : PgnValue) (r : ℕ) → G v → raw_of_lem (t.field i) v ≡ rawed.Raw r → (t.field i).width ≤ 64 → r < 2 ^ (t.field i).width)
+module _ (G : PgnValue → Type 0) (byte_fits : (b : PgnBytes) (x : ℕ) → G (Bytes b) → b.encoding ≡ Some x → x < 256)
+    (t : Table) (raw-fits : (i : ℕ) → i < t.count → (v : PgnValue) (r : ℕ) → G v → raw_of_lem (t.field i) v ≡ Ok r → (t.field i).width ≤ 64 → r < 2 ^ (t.field i).width)
     (p : Payload) (small : p.size ≤ payload_max) (lent : List ℕ) (bytes : AllBytes lent) (size : ℕ) where
   -- what came of an offer at field i, and is held
   module _ (i : ℕ) (l : i < t.count) (e : Element) (at : ℕ) (o : Offer) (known : Offers G o) (w : Result Weighed EncodeRefusal)

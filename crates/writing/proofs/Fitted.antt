@@ -8,7 +8,6 @@ use Rattle.std.specs.Prelude.{Ok}
 use Rattle.descriptor.specs.declared.FieldKind.{FieldKind}
 use Rattle.descriptor.specs.declared.FieldKind.TheVariants as kind
 use Rattle.descriptor.specs.declared.PgnValue.{PgnValue}
-use Rattle.numbers.specs.declared.RawOf.TheVariants.{Raw}
 use Rattle.numbers.specs.Conversions.{raw_of_lem}
 use Rattle.numbers.specs.Scaling.{rule_of_lem}
 use Rattle.numbers.specs.Held.{Held}
@@ -40,6 +39,6 @@ wide kind.Reserved w h = tt
 wide kind.Spare w h = tt
 wide kind.Unimplemented w h = tt
 
-pub raw-fits : (t : Table) → check_of t ≡ Ok tt → (i : ℕ) → i < t.count → (v : PgnValue) (r : ℕ) → Held v → raw_of_lem (t.field i) v ≡ Raw r
+pub raw-fits : (t : Table) → check_of t ≡ Ok tt → (i : ℕ) → i < t.count → (v : PgnValue) (r : ℕ) → Held v → raw_of_lem (t.field i) v ≡ Ok r
     → (t.field i).width ≤ 64 → r < 2 ^ (t.field i).width
 raw-fits t ok i l v r h e w = raw-below (t.field i) v r h w (wide (t.field i).kind (t.field i).width (widths t ok i l)) e

@@ -1,6 +1,6 @@
 -- What it says of a field that something was weighed for it: a number that has room, bits that are skipped, or bytes that lie in the lent
 -- text. Assumes nothing.
-use Rattle.std.specs.Prelude.{Result, Ok, Err}
+use Rattle.std.specs.Prelude.{Result, Ok, Err, Option, Some, None}
 use mathlib.Core.Path.{◌≡◌, refl, subst}
 use mathlib.Core.Bool.{Bool, true, false, not, ◌||◌}
 use Prim.Native.Nat.{ℕ, ◌+◌, ◌-◌, ◌*◌, ◌/◌, ◌%◌, ◌≤◌, ◌<◌}
@@ -13,15 +13,13 @@ use Rattle.bits.specs.declared.BitRefusal.TheVariants.{NonAlignedBit, OutOfBits}
 use Rattle.bits.specs.declared.Room.{Room}
 use Rattle.bits.specs.declared.Room.TheVariants as room
 use Rattle.bits.proofs.Rooms.{fitting}
-use Rattle.descriptor.specs.declared.Encoding.{Encoding}
-use Rattle.descriptor.specs.declared.Encoding.TheVariants as encoding
 use Rattle.descriptor.specs.declared.FieldDescriptor.{FieldDescriptor}
 use Rattle.descriptor.specs.declared.PgnBytes.{PgnBytes}
 use Rattle.descriptor.specs.declared.PgnValue.{PgnValue}
 use Rattle.descriptor.specs.declared.PgnValue.TheVariants.{U64, U32, U16, U8, I64, I32, I16, I8, F64, F32, Bytes}
 use Rattle.numbers.specs.Conversions.{raw_of_lem}
-use Rattle.numbers.specs.declared.RawOf.{RawOf}
-use Rattle.numbers.specs.declared.RawOf.TheVariants as raw
+use Rattle.numbers.specs.declared.NumberRefusal.{NumberRefusal}
+use Rattle.numbers.specs.declared.NumberRefusal.TheVariants as number
 use Rattle.fields.specs.declared.Shape.{Shape}
 use Rattle.fields.specs.declared.Shape.TheVariants as shape
 use Rattle.fields.specs.Shapes.{shape_of, is_gap_lem}
@@ -39,7 +37,7 @@ use Rattle.tables.specs.Check.{payload_max}
 use Rattle.writing.specs.Encode.{offered_of, content_of_lem}
 use Rattle.writing.specs.ReadBack.{Offers}
 
-pub byted : (b : PgnBytes) (x : ℕ) → Held (Bytes b) → b.encoding ≡ encoding.Byte x → x < 256
+pub byted : (b : PgnBytes) (x : ℕ) → Held (Bytes b) → b.encoding ≡ Some x → x < 256
 byted b x g q = subst HeldByte q g
 
 -- in a field of this shape at bit `at`, with `lent` bytes of lent text. `G` is what is known of a value that is offered
@@ -52,12 +50,12 @@ module _ (G : PgnValue → Type 0) (f : FieldDescriptor) (lent at : ℕ) where
   Aligned b = 0 < b.len.0 → at % 8 ≡ 0
 
   pub data Meant : Shape → Result Weighed EncodeRefusal → Type 0 where
-    a-number : {strict : Bool} (v : PgnValue) {r : ℕ} → G v → raw_of_lem f v ≡ raw.Raw r → 0 < f.width → f.width ≤ 64 → Meant (shape.Number strict) (Ok (Number (bits f.width) r))
+    a-number : {strict : Bool} (v : PgnValue) {r : ℕ} → G v → raw_of_lem f v ≡ Ok r → 0 < f.width → f.width ≤ 64 → Meant (shape.Number strict) (Ok (Number (bits f.width) r))
     a-gap : 0 < f.width → f.width ≤ 64 → Meant shape.Gap (Ok (Gap (bits f.width)))
     a-fixed : {b : PgnBytes} → at % 8 ≡ 0 → b.len.0 ≤ f.width / 8 → Lies b → Meant shape.Fixed (Ok (Text (bits (8 * (f.width / 8))) Bare b))
     a-whole : {b : PgnBytes} → at % 8 ≡ 0 → 8 * b.len.0 ≡ f.width → Lies b → Meant shape.Whole (Ok (Text (bits f.width) Bare b))
     a-lz : {b : PgnBytes} → b.len.0 ≤ 221 → Aligned b → Lies b → Meant shape.Lz (Ok (Text (bits (16 + 8 * b.len.0)) Counted b))
-    a-lau : {b : PgnBytes} {x : ℕ} → G (Bytes b) → b.encoding ≡ encoding.Byte x → b.len.0 ≤ 221 → Aligned b → Lies b → Meant shape.Lau (Ok (Text (bits (16 + 8 * b.len.0)) (Encoded x) b))
+    a-lau : {b : PgnBytes} {x : ℕ} → G (Bytes b) → b.encoding ≡ Some x → b.len.0 ≤ 221 → Aligned b → Lies b → Meant shape.Lau (Ok (Text (bits (16 + 8 * b.len.0)) (Encoded x) b))
     an-absent : {b : PgnBytes} → b.len.0 ≡ 0 → Lies b → Meant shape.Lau (Ok (Text (bits 8) Empty b))
     refused : {sh : Shape} {e : EncodeRefusal} → Meant sh (Err e)
 
@@ -74,12 +72,12 @@ module _ (G : PgnValue → Type 0) (f : FieldDescriptor) (lent at : ℕ) where
     at_room sh room.Fits w h = h refl
     at_room sh (room.Refused e) w h = refused
 
-    number-meant : (strict : Bool) (v : PgnValue) → G v → (x : RawOf) → raw_of_lem f v ≡ x → Meant (shape.Number strict) (number_by x i size at f.width)
-    number-meant strict v g (raw.Raw r) q =
+    number-meant : (strict : Bool) (v : PgnValue) → G v → (x : Result ℕ NumberRefusal) → raw_of_lem f v ≡ x → Meant (shape.Number strict) (number_by x i size at f.width)
+    number-meant strict v g (Ok r) q =
         at_room (shape.Number strict) (room_of size at f.width 64) (Ok (Number (bits f.width) r)) (λ h. let k = fitting size at f.width 64 h in a-number v g q k.some k.narrow)
-    number-meant strict v g (raw.BadWidth n) q = refused
-    number-meant strict v g raw.OutOfRange q = refused
-    number-meant strict v g raw.WrongKind q = refused
+    number-meant strict v g (Err (number.BadWidth n)) q = refused
+    number-meant strict v g (Err number.OutOfRange) q = refused
+    number-meant strict v g (Err number.WrongKind) q = refused
 
     gap-meant : Meant shape.Gap (gap_of f i size at)
     gap-meant = at_room shape.Gap (room_of size at f.width 64) (Ok (Gap (bits f.width))) (λ h. let k = fitting size at f.width 64 h in a-gap k.some k.narrow)
@@ -97,9 +95,9 @@ module _ (G : PgnValue → Type 0) (f : FieldDescriptor) (lent at : ℕ) where
         (λ _. picked sh (eqb (at % 8) 0) told (Err (BitWriteError i (NonAlignedBit (bits (saturated (at + put)))))) (λ z. fits (λ _. eqb-true (at % 8) 0 z) o.0 l) (λ _. refused))
         (λ z. fits (λ y. let k : ◌≡◌ {A = ℕ} 0 1 = cc in absurd (omega arith)) o.0 l))
 
-    unencoded-meant : (sh : Shape) (e : Encoding) (w : Result Weighed EncodeRefusal) → Meant sh w → Meant sh (unencoded e i w)
-    unencoded-meant sh encoding.Absent w h = h
-    unencoded-meant sh (encoding.Byte x) w h = refused
+    unencoded-meant : (sh : Shape) (e : Option ℕ) (w : Result Weighed EncodeRefusal) → Meant sh w → Meant sh (unencoded e i w)
+    unencoded-meant sh None w h = h
+    unencoded-meant sh (Some x) w h = refused
 
     -- a text that is not empty is tested so
     tested : (b : PgnBytes) → (not (eqb b.len.0 0) ≡ true → at % 8 ≡ 0) → Aligned b
@@ -120,10 +118,10 @@ module _ (G : PgnValue → Type 0) (f : FieldDescriptor) (lent at : ℕ) where
         unencoded-meant shape.Lz b.encoding _
         (text-meant shape.Lz b (ltb 221 b.len.0) (not (eqb b.len.0 0)) 8 (16 + 8 * b.len.0) Counted (λ o a l. a-lz (ltb-false 221 b.len.0 o) (tested b a) l))
 
-    lau-meant : (b : PgnBytes) → G (Bytes b) → (e : Encoding) → b.encoding ≡ e → Meant shape.Lau (lau_by e b i lent size at)
-    lau-meant b g encoding.Absent q =
+    lau-meant : (b : PgnBytes) → G (Bytes b) → (e : Option ℕ) → b.encoding ≡ e → Meant shape.Lau (lau_by e b i lent size at)
+    lau-meant b g None q =
         picked shape.Lau (eqb b.len.0 0) _ _ (λ z. text-meant shape.Lau b false false 0 8 Empty (λ o a l. an-absent (eqb-true b.len.0 0 z) l)) (λ _. refused)
-    lau-meant b g (encoding.Byte x) q =
+    lau-meant b g (Some x) q =
         text-meant shape.Lau b (ltb 221 b.len.0) (not (eqb b.len.0 0)) 16 (16 + 8 * b.len.0) (Encoded x)
         (λ o a l. a-lau g q (ltb-false 221 b.len.0 o) (tested b a) l)
 

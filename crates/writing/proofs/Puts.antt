@@ -1,5 +1,5 @@
 -- What was weighed has room. Assumes nothing.
-use Rattle.std.specs.Prelude.{Result, Ok, Err}
+use Rattle.std.specs.Prelude.{Result, Ok, Err, Option, Some, None}
 use mathlib.Core.Path.{◌≡◌, refl, sym, ap}
 use mathlib.Core.Bool.{Bool, true, false, not, ◌||◌}
 use mathlib.Core.List.{List}
@@ -15,15 +15,13 @@ use Rattle.bits.specs.declared.BitRefusal.TheVariants.{NonAlignedBit, OutOfBits}
 use Rattle.bits.specs.declared.Room.{Room}
 use Rattle.bits.specs.declared.Room.TheVariants as room
 use Rattle.bits.proofs.Rooms.{fitting, room_fits}
-use Rattle.descriptor.specs.declared.Encoding.{Encoding}
-use Rattle.descriptor.specs.declared.Encoding.TheVariants as encoding
 use Rattle.descriptor.specs.declared.FieldDescriptor.{FieldDescriptor}
 use Rattle.descriptor.specs.declared.PgnBytes.{PgnBytes}
 use Rattle.descriptor.specs.declared.PgnValue.{PgnValue}
 use Rattle.descriptor.specs.declared.PgnValue.TheVariants.{U64, U32, U16, U8, I64, I32, I16, I8, F64, F32, Bytes}
 use Rattle.numbers.specs.Conversions.{raw_of_lem}
-use Rattle.numbers.specs.declared.RawOf.{RawOf}
-use Rattle.numbers.specs.declared.RawOf.TheVariants as raw
+use Rattle.numbers.specs.declared.NumberRefusal.{NumberRefusal}
+use Rattle.numbers.specs.declared.NumberRefusal.TheVariants as number
 use Rattle.fields.specs.declared.Shape.{Shape}
 use Rattle.fields.specs.declared.Shape.TheVariants as shape
 use Rattle.fields.specs.Shapes.{shape_of}
@@ -61,11 +59,11 @@ module _ (size at lent : ℕ) where
   or-false false b h = (refl, h)
 
   module _ (small : size ≤ payload_max) where
-    number-puts : (r : RawOf) (i w : ℕ) → P (number_by r i size at w)
-    number-puts (raw.Raw x) i w = at_room (room_of size at w 64) i _ (λ h. let f = fitting size at w 64 h in (small, (f.some, (f.narrow, f.inside))))
-    number-puts (raw.BadWidth n) i w = refl
-    number-puts raw.OutOfRange i w = refl
-    number-puts raw.WrongKind i w = refl
+    number-puts : (r : Result ℕ NumberRefusal) (i w : ℕ) → P (number_by r i size at w)
+    number-puts (Ok x) i w = at_room (room_of size at w 64) i _ (λ h. let f = fitting size at w 64 h in (small, (f.some, (f.narrow, f.inside))))
+    number-puts (Err (number.BadWidth n)) i w = refl
+    number-puts (Err number.OutOfRange) i w = refl
+    number-puts (Err number.WrongKind) i w = refl
 
     room-puts : (b : PgnBytes) (i n : ℕ) (lead : Lead) → b.start.0 + b.len.0 ≤ lent → Whole n lead b.len.0 → P (if_room_lem i size at n (Ok (Text (bits n) lead b)))
     room-puts b i n lead l w =
@@ -82,17 +80,17 @@ module _ (size at lent : ℕ) where
         let q : P told = room-puts b i n lead (ltb-false _ _ o.1) (w o.0) in
         picked aligned (if_aligned_lem i at put told) told (λ _. aligned-puts i put told q) (λ _. q))
 
-    unencoded-puts : (e : Encoding) (i : ℕ) (w : Result Weighed EncodeRefusal) → P w → P (unencoded e i w)
-    unencoded-puts encoding.Absent i w h = h
-    unencoded-puts (encoding.Byte x) i w h = refl
+    unencoded-puts : (e : Option ℕ) (i : ℕ) (w : Result Weighed EncodeRefusal) → P w → P (unencoded e i w)
+    unencoded-puts None i w h = h
+    unencoded-puts (Some x) i w h = refl
 
     around-more : (n : ℕ) → 16 + 8 * n ≡ 8 * (n + 2)
     around-more n = omega arith
 
-    lau-puts : (e : Encoding) (b : PgnBytes) (i : ℕ) → P (lau_by e b i lent size at)
-    lau-puts encoding.Absent b i =
+    lau-puts : (e : Option ℕ) (b : PgnBytes) (i : ℕ) → P (lau_by e b i lent size at)
+    lau-puts None b i =
         picked (eqb b.len.0 0) _ _ (λ _. text-puts b i false false 0 8 Empty (λ _. record { bytes = 1; same = refl; fits = omega arith })) (λ _. refl)
-    lau-puts (encoding.Byte x) b i =
+    lau-puts (Some x) b i =
         text-puts b i (ltb 221 b.len.0) (not (eqb b.len.0 0)) 16 (16 + 8 * b.len.0) (Encoded x) (λ _. record { bytes = b.len.0 + 2; same = around-more b.len.0; fits = omega arith })
 
     bytes-puts : (v : PgnValue) (i : ℕ) (f : PgnBytes → Result Weighed EncodeRefusal) → ((b : PgnBytes) → P (f b)) → P (by_bytes v i f)

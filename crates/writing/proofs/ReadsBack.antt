@@ -1,6 +1,6 @@
 -- Read-back: what encode accepts and writes, decode reads (`read_back`), with room for 1,785 readings always (`read-back-roomy`); of value
 -- records and a lent text in bytes as they are (`records-read-back`). Assumes nothing.
-use Rattle.std.specs.Prelude.{Result, Ok, Err}
+use Rattle.std.specs.Prelude.{Result, Ok, Err, Some, None}
 use mathlib.Core.Path.{◌≡◌, refl, sym, ap, ap₂, ◌∙◌, subst}
 use mathlib.Core.Logic.{inl, inr}
 use mathlib.Core.Bool.{Bool, true, false}
@@ -15,7 +15,6 @@ use borrow.Author.Tests.{ltb-false, le-ltb}
 use Rattle.bits.specs.Bits.{pick}
 use Rattle.bits.specs.Calls.{bytes}
 use Rattle.bits.specs.declared.ByteCount.{ByteCount}
-use Rattle.descriptor.specs.declared.Encoding.TheVariants.{Absent, Byte}
 use Rattle.numbers.specs.Held.{HeldByte, Held}
 use Rattle.tables.specs.Table.{Table}
 use Rattle.tables.specs.Check.{Checked, check_of, payload_max}
@@ -213,7 +212,7 @@ byte_at (x ∷ s) h (suc j) = byte_at s h.1 j
 encoding-held : (mark x : ℕ) → x < 256 → HeldByte (encoding_in_lem mark x)
 encoding-held mark x l = go (eqb mark 0)
   where
-    go : (b : Bool) → HeldByte (pick b Absent (Byte x))
+    go : (b : Bool) → HeldByte (pick b None (Some x))
     go true = tt
     go false = l
 

@@ -10,7 +10,6 @@ use lib.ListN.{length}
 use borrow.Author.Tests.{lt-ltb}
 use Rattle.descriptor.specs.declared.PgnValue.{PgnValue}
 use Rattle.numbers.specs.Conversions.{raw_of_lem}
-use Rattle.numbers.specs.declared.RawOf.TheVariants as rawed
 use Rattle.numbers.specs.Held.{Held}
 use Rattle.tables.specs.Table.{Table}
 use Rattle.tables.specs.Check.{check_of, payload_max}
@@ -122,7 +121,7 @@ module _ (t : Table) (ok : check_of t ≡ Ok tt) (offered : ℕ → Offer) (lent
 
 module _ (t : Table) (ok : check_of t ≡ Ok tt) (offered : ℕ → Offer) (known : (j : ℕ) → Offers Held (offered j)) (lent : List ℕ) (texts : AllBytes lent) (size : ℕ)
     (p : Payload) (small : p.size ≤ payload_max) where
-  raws-fit : (i : ℕ) → i < t.count → (v : PgnValue) (r : ℕ) → Held v → raw_of_lem (t.field i) v ≡ rawed.Raw r → (t.field i).width ≤ 64 → r < 2 ^ (t.field i).width
+  raws-fit : (i : ℕ) → i < t.count → (v : PgnValue) (r : ℕ) → Held v → raw_of_lem (t.field i) v ≡ Ok r → (t.field i).width ≤ 64 → r < 2 ^ (t.field i).width
   raws-fit i l v r g q w = raw-fits t ok i l v r g q w
 
   abbrev P : Mark → Type 0

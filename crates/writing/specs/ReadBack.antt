@@ -2,10 +2,8 @@
 -- writes, the first bytes used of the buffer, decode reads: the same fields, elements, spans and raw numbers, the same LZ, LAU and Binary bytes,
 -- a StringFix as its text followed by the fill, ending where encode ended; the table's filling included. Definitions only: that it holds is
 -- `proofs/ReadsBack.antt`.
-use Rattle.std.specs.Prelude.{◌≡◌, ℕ, zero, suc, ◌-◌, ◌*◌, ◌/◌, ◌≤◌, ◌<◌, List, [], ◌∷◌, ◌++◌, length, replicate, take, Some, None, Result, Ok, Err}
+use Rattle.std.specs.Prelude.{◌≡◌, ℕ, zero, suc, ◌-◌, ◌*◌, ◌/◌, ◌≤◌, ◌<◌, List, [], ◌∷◌, ◌++◌, length, replicate, take, Some, None, Result, Ok, Err, Option}
 use Rattle.weighing.specs.declared.EncodeRefusal.{EncodeRefusal}
-use Rattle.descriptor.specs.declared.Encoding.{Encoding}
-use Rattle.descriptor.specs.declared.Encoding.TheVariants as encoding
 use Rattle.descriptor.specs.declared.PgnBytes.{PgnBytes}
 use Rattle.descriptor.specs.declared.PgnValue.{PgnValue}
 use Rattle.descriptor.specs.declared.PgnValue.TheVariants.{Bytes}
@@ -50,14 +48,14 @@ text_back (Encoded x) n text = text
 text_back Empty n text = []
 
 -- and the encoding byte
-abbrev pub encoding_back : Lead → Encoding
-encoding_back Bare = encoding.Absent
-encoding_back Counted = encoding.Absent
-encoding_back (Encoded x) = encoding.Byte x
-encoding_back Empty = encoding.Absent
+abbrev pub encoding_back : Lead → Option ℕ
+encoding_back Bare = None
+encoding_back Counted = None
+encoding_back (Encoded x) = Some x
+encoding_back Empty = None
 
 -- a reading of these bytes of a payload
-pub record TextBack (p : Payload) (r : Reading) (text : List ℕ) (enc : Encoding) : Type 0 where
+pub record TextBack (p : Payload) (r : Reading) (text : List ℕ) (enc : Option ℕ) : Type 0 where
   pub place : PgnBytes
   pub value : r.value ≡ Bytes place
   pub none : r.raw ≡ None

@@ -3,5 +3,5 @@ use mathlib.Core.Path.{sym, ◌∙◌}
 use Rattle.numbers.proofs.Limits.{cut_fits}
 use Rattle.numbers.proofs.quantizing.cut.Goals as goal
 
-pub returns-in-Fits : goal.returns-in-Fits
-returns-in-Fits c = c.nearly.ensures ∙ cut_fits c.args.n c.args.signed c.args.y _ _ (sym c.truncated_bits.ensures ∙ c.in-Fits.is)
+pub returns-in-Some : goal.returns-in-Some
+returns-in-Some c = c.nearly.ensures ∙ cut_fits c.args.n c.args.signed c.args.y _ _ (sym c.truncated_bits.ensures ∙ c.in-Some.is)

@@ -4,5 +4,5 @@ use Rattle.text.proofs.Sheets.{then, same}
 use Rattle.readcalls.specs.Lines.{encoding_text}
 use Rattle.readcalls.proofs.answers.put_encoding.Goals as goal
 
-pub returns-in-Byte : goal.returns-in-Byte
-returns-in-Byte c = same (sym (ap encoding_text c.in-Byte.is)) (then c.put-a.ensures c.put_pairs.ensures)
+pub returns-in-Some : goal.returns-in-Some
+returns-in-Some c = same (sym (ap encoding_text c.in-Some.is)) (then c.put-a.ensures c.put_pairs.ensures)

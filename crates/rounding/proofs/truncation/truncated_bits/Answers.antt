@@ -10,8 +10,8 @@ use lib.Ieee.{Float, nan, inf, fin, binary64, fits, ne, to_bits}
 use lib.Ieee.Compare.{differs_from_itself, nan_differs}
 use lib.Ieee.Scale.{finite}
 use denote.Floats.{passes}
-use Rattle.rounding.specs.declared.Whole.TheVariants.{TooBig, Fits}
-use Rattle.rounding.specs.Truncation.{truncated_of}
+use Rattle.std.specs.Prelude.{None}
+use Rattle.rounding.specs.Truncation.{cut_to, truncated_of}
 use Rattle.rounding.proofs.Fields.{field64, sign64, fields, is_number}
 use Rattle.rounding.proofs.WholePart.{below_one, shift-right, shift-left, shifted-lt, beyond}
 use Rattle.rounding.proofs.truncation.truncated_bits.Goals as goal
@@ -30,13 +30,13 @@ finite-by (inf s) e h = absurd (none (field64 (inf s)) (infinite s) h)
     none x p q = omega arith
 finite-by (fin s m d) e h = tt
 
-last : (y : Float) → T (fits binary64 y) → ne y y ≡ false → 1086 < field64 y → TooBig ≡ truncated_of y
+last : (y : Float) → T (fits binary64 y) → ne y y ≡ false → 1086 < field64 y → None ≡ truncated_of y
 unfolding truncated_of
 last nan f e h = absurd (true≢false (sym nan_differs ∙ e))
 last (inf s) f e h = refl
 last (fin s m d) f e h = beyond (fin s m d) (fields (fin s m d) f tt) h
 
-of_nan : TooBig ≡ truncated_of nan
+of_nan : None ≡ truncated_of nan
 unfolding truncated_of
 of_nan = refl
 
@@ -54,7 +54,7 @@ returns-then-e-lt-AT_ONE c =
 
 pub returns-then-e-le-AT_WHOLE : goal.returns-then-e-le-AT_WHOLE
 returns-then-e-le-AT_WHOLE c =
-    ap (λ (x : ℕ). Fits (sign64 c.args.y) x) c.right.ensures
+    ap (λ (x : ℕ). cut_to (sign64 c.args.y) x) c.right.ensures
     ∙ shift-right c.args.y ((let held : T (fits binary64 c.args.y) =
     passes (fits binary64 c.args.y) c.well_formed.0.1 in
     fields c.args.y (held) (finite-by c.args.y c.if-y.false (le_trans c.if-e-le-AT_WHOLE.true (lit≤ tt))))) c.if-e-lt-AT_ONE.false c.if-e-le-AT_WHOLE.true
@@ -64,7 +64,7 @@ returns-then-e-le-LAST_FITTING c =
     let v = (let held : T (fits binary64 c.args.y) =
     passes (fits binary64 c.args.y) c.well_formed.0.1 in
     fields c.args.y (held) (finite-by c.args.y c.if-y.false c.if-e-le-LAST_FITTING.true)) in
-    ap (λ (x : ℕ). Fits (sign64 c.args.y) x) (c.left.ensures ∙ mod-eq_of_lt (shifted-lt c.args.y v c.if-e-le-LAST_FITTING.true)) ∙ shift-left c.args.y v c.if-e-le-AT_WHOLE.false c.if-e-le-LAST_FITTING.true
+    ap (λ (x : ℕ). cut_to (sign64 c.args.y) x) (c.left.ensures ∙ mod-eq_of_lt (shifted-lt c.args.y v c.if-e-le-LAST_FITTING.true)) ∙ shift-left c.args.y v c.if-e-le-AT_WHOLE.false c.if-e-le-LAST_FITTING.true
 
 pub returns : goal.returns
 returns c =
