@@ -5,13 +5,13 @@ ghost use Rattle.text.specs.Sheet.{Puts};
 ghost use Rattle.columns.specs.Parts.{field};
 ghost use Rattle.columns.specs.Numbers.{decimal_in};
 ghost use Rattle.bitcalls.specs.Answers.{counted_text, form_text, answer_text, answered};
-ghost use Rattle.bitcalls.specs.Clauses.{Passes};
 
 use crate::names::{Call, call_of, count_max, spaces_of};
 use crate::reads::{put_advance, put_read, put_remaining, put_slice};
 use crate::writes::{put_write, put_write_advance, put_write_slice};
 use bits::{BitPos, Cursor};
 use columns::{Number, word};
+use lines::Answers;
 use text::{put, put_malformed};
 
 fn place(n: u64) -> usize
@@ -101,33 +101,15 @@ fn put_reply(line: &[u8], out: &mut [u8], at: usize) -> usize
     put_form(line, c, &mut buffer[0..n], place(count.value), out, at)
 }
 
-// .. with it.
-fn put_answer(line: &[u8], out: &mut [u8], at: usize) -> usize
-    ensures { Puts out.old at (answered line.now) out.new result }
-{
-    let to = put_reply(line, out, at);
-    put(out, to, b'\n')
-}
+// What answers the lines.
+#[derive(Drop)]
+pub(crate) struct Calls;
 
-// One call: the lines that end in a chunk are answered, the one that waits first.
-pub(crate) fn pass(
-    held: lines::Held,
-    waits: bool,
-    line: &mut [u8],
-    input: &[u8],
-    out: &mut [u8],
-    at: usize,
-) -> lines::Passed
-    ensures { Passes result line.new out.new held waits line.old input.now out.old at }
-{
-    let mut p = lines::begin(held, waits, at);
-    while !p.over {
-        p = lines::next(p, line, input);
-        if p.waits {
-            let known = p.held;
-            let to = put_answer(lines::line_of(known, line), out, p.to);
-            p = lines::answered(p, to, out.len());
-        }
+impl Answers for Calls {
+    ghost answered = { answered };
+
+    fn put_answer(&mut self, line: &[u8], out: &mut [u8], at: usize) -> usize {
+        let to = put_reply(line, out, at);
+        put(out, to, b'\n')
     }
-    p
 }

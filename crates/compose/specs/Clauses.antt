@@ -1,18 +1,12 @@
--- What the code answers by the definitions, and the contract of `pass`: what a call leaves is `pass_of` of what was held, the chunk and the page.
+-- What the code answers by the definitions.
 use Rattle.std.specs.Prelude.{◌≡◌, ℕ, ◌+◌, Bool, true, false, List, [], ◌++◌, leb, ltb, length, take, drop}
 use Rattle.bits.specs.Bits.{pick}
-use Rattle.text.specs.Sheet.{sheet}
 use Rattle.columns.specs.Parts.{space, parts_of}
 use Rattle.columns.specs.Runs.{over}
-use Rattle.lines.specs.Machine.{Machine, passed, pass_of}
-use Rattle.lines.specs.Held.{Store, store, held}
-use Rattle.lines.specs.declared.Held.{Held}
-use Rattle.lines.specs.declared.Passed.{Passed}
 use Rattle.compose.specs.declared.entries.Entry.{Entry}
 use Rattle.compose.specs.declared.entries.Listed.{Listed}
 use Rattle.compose.specs.Values.{Value, number, text, none, value_of}
 use Rattle.compose.specs.Records.{text_of, Lists, lists, unlisted, more, lists_from}
-use Rattle.compose.specs.Answers.{answered}
 
 -- ## A value
 
@@ -56,14 +50,3 @@ Adds r values' texts' listed values texts s = taken r values' texts' ≡ more (l
 -- `list_values`: those of the fields after a place
 abbrev pub Collects : Listed → List ℕ → List ℕ → List ℕ → ℕ → List ℕ → List ℕ → Type 0
 Collects r values' texts' line from values texts = taken r values' texts' ≡ lists_from (length values) (length texts) (lists [] []) (fields_after from line)
-
--- ## `pass`
-
--- the program
-abbrev pub compose : Machine Store
-compose = held answered
-
--- the answer r, and the line's buffer and the page at exit; of what is held and whether it waits, the buffer, the chunk, the page and the place
-abbrev pub Passes : Passed → List ℕ → List ℕ → Held → Bool → List ℕ → List ℕ → List ℕ → ℕ → Type 0
-Passes r buffer' page' h w buffer input page at =
-    passed (store r.held buffer') r.waits r.taken page' r.to ≡ pass_of compose (store h buffer) w input (sheet page at)

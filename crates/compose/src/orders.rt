@@ -3,13 +3,13 @@ ghost use Rattle.std.specs.Prelude.{◌≡◌, drop};
 ghost use Rattle.text.specs.Sheet.{Puts};
 ghost use Rattle.columns.specs.Parts.{space, parts_of};
 ghost use Rattle.compose.specs.Answers.{is_t_lem, leading, order_text, answered};
-ghost use Rattle.compose.specs.Clauses.{fields_after, Passes};
+ghost use Rattle.compose.specs.Clauses.{fields_after};
 
 use crate::answers::put_malformed;
 use crate::encodes::{put_by_pgn, put_by_table};
 use crate::entries::list_values;
 use columns::{field_end, part, word};
-use lines::{Held, Passed};
+use lines::Answers;
 
 // The records of 2,000 values.
 pub(crate) const RECORDS_MAX: usize = 48000;
@@ -59,51 +59,37 @@ fn values_from(line: &[u8]) -> usize
     first
 }
 
-// The answer to a line, with its newlines. What the lent values and texts then hold is left open: they
-// are lent so that they need not be cleared for each line.
-fn put_answer(
-    line: &[u8],
-    values: &mut [u8; RECORDS_MAX],
-    lent: &mut [u8; TEXTS_MAX],
-    out: &mut [u8],
-    at: usize,
-) -> usize
-    ensures { Puts out.old at (answered line.now) out.new result }
-{
-    let listed = list_values(line, values_from(line), values, lent);
-    if !listed.good {
-        return put_malformed(out, at);
-    }
-    put_order(
-        line,
-        part(values, 0, listed.bytes),
-        part(lent, 0, listed.text),
-        out,
-        at,
-    )
+// What answers the lines. What its buffers hold of the last line is left open: they need not be cleared
+// for the next.
+#[derive(Drop)]
+pub(crate) struct Orders {
+    values: [u8; RECORDS_MAX],
+    lent: [u8; TEXTS_MAX],
 }
 
-// One call: the lines that end in a chunk are answered, the one that waits first.
-pub(crate) fn pass(
-    held: Held,
-    waits: bool,
-    line: &mut [u8],
-    values: &mut [u8; RECORDS_MAX],
-    lent: &mut [u8; TEXTS_MAX],
-    input: &[u8],
-    out: &mut [u8],
-    at: usize,
-) -> Passed
-    ensures { Passes result line.new out.new held waits line.old input.now out.old at }
-{
-    let mut p = lines::begin(held, waits, at);
-    while !p.over {
-        p = lines::next(p, line, input);
-        if p.waits {
-            let known = p.held;
-            let to = put_answer(lines::line_of(known, line), values, lent, out, p.to);
-            p = lines::answered(p, to, out.len());
+impl Orders {
+    pub(crate) fn new() -> Orders {
+        Orders {
+            values: [0; RECORDS_MAX],
+            lent: [0; TEXTS_MAX],
         }
     }
-    p
+}
+
+impl Answers for Orders {
+    ghost answered = { answered };
+
+    fn put_answer(&mut self, line: &[u8], out: &mut [u8], at: usize) -> usize {
+        let listed = list_values(line, values_from(line), &mut self.values, &mut self.lent);
+        if !listed.good {
+            return put_malformed(out, at);
+        }
+        put_order(
+            line,
+            part(&self.values, 0, listed.bytes),
+            part(&self.lent, 0, listed.text),
+            out,
+            at,
+        )
+    }
 }

@@ -14,17 +14,15 @@ pub mod Stream
 mod Feeding
 -- a chunk, line by line: up to its first newline, or all of it
 pub mod UpTo
--- what `next` answers, by what `feed` answers
-mod Taking
 -- two programs that answer the same lines alike print alike
 pub mod Alike
 -- the holder of lines is exact: a line that is too long for the buffer counts as an empty one
 pub mod Capped
 -- a program that holds its lines keeps its promise
 pub mod Programs
--- the loop of a program over `next` and `answered` comes to one call
-pub mod Steps
 -- every contract leaves one answer and one content of each lent buffer
 mod OneAnswer
 -- a line by itself is answered whole, with its newline or without
 pub mod Whole
+-- the loop of `pass_lines`
+pub mod Chunk

@@ -9,12 +9,7 @@ use lib.ListN.{length, drop, length-drop}
 use lib.Seq.{drop-drop}
 use Rattle.bits.specs.Bits.{pick}
 use Rattle.text.specs.Sheet.{Sheet, page_of, place_of}
-use Rattle.lines.specs.Machine.{Machine, Passed, passed, newline, up_to_newline, answered_or, pass_from}
-
--- what is held after some bytes of a line
-unfoldable pub feds : {K : Type 0} → Machine K → K → List ℕ → K
-feds m k [] = k
-feds m k (b ∷ bs) = feds m (m.fed k b) bs
+use Rattle.lines.specs.Machine.{Machine, Passed, passed, newline, up_to_newline, feds, answered_or, pass_from}
 
 pub up_le : (xs : List ℕ) → length (up_to_newline xs) ≤ length xs
 unfolding up_to_newline

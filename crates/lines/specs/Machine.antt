@@ -19,6 +19,11 @@ unfoldable pub up_to_newline : List ℕ → List ℕ
 up_to_newline [] = []
 up_to_newline (b ∷ bs) = pick (eqb b newline) [] (b ∷ up_to_newline bs)
 
+-- what is held after some bytes of a line
+unfoldable pub feds : {K : Type 0} → Machine K → K → List ℕ → K
+feds m k [] = k
+feds m k (b ∷ bs) = feds m (m.fed k b) bs
+
 -- the answers to the lines that end in the input; k is held of the first of them
 unfoldable pub text_from : {K : Type 0} → Machine K → K → List ℕ → List ℕ
 text_from m k [] = []

@@ -1,34 +1,13 @@
--- A call in steps, as the code takes them: what each step leaves. That the steps come to `pass_of` is proofs/Steps.antt.
-use Rattle.std.specs.Prelude.{ℕ, ◌+◌, List, Bool, true, false, ◌||◌, length, drop, ltb}
-use Rattle.bits.specs.Bits.{pick}
-use Rattle.lines.specs.Machine.{up_to_newline}
-use Rattle.lines.specs.Held.{nothing_held, held_after, buffer_after}
-use Rattle.lines.specs.declared.Held.{Held}
+-- The contract of `pass`: what a call leaves is `pass_of` of what was held, the chunk and the page.
+use Rattle.std.specs.Prelude.{◌≡◌, ℕ, Bool, List}
+use Rattle.text.specs.Sheet.{sheet}
+use Rattle.lines.specs.Machine.{Machine, passed, pass_of, pass_from}
 use Rattle.lines.specs.declared.Passed.{Passed}
 
-abbrev pub passed_at : Held → Bool → ℕ → ℕ → Bool → Passed
-passed_at h w n to o = record { held = h; waits = w; taken = n; to = to; over = o }
+-- the answer r, and what is held and the page at exit; of what was held and whether it waits, the chunk, the page and the place
+abbrev pub Passes : {K : Type 0} → Machine K → Passed → K → List ℕ → K → Bool → List ℕ → List ℕ → ℕ → Type 0
+Passes m r k' page' k w input page at = passed k' r.waits r.taken page' r.to ≡ pass_of m k w input (sheet page at)
 
-abbrev pub begun : Held → Bool → ℕ → Passed
-begun h w at = passed_at h w 0 at false
-
--- nothing is taken where a line waits
-abbrev pub stays : Passed → List ℕ → Bool
-stays p input = p.waits || ltb (length input) p.taken
-
--- what is taken of the rest of a chunk
-abbrev pub piece : Passed → List ℕ → List ℕ
-piece p input = up_to_newline (drop p.taken input)
-
-abbrev pub took_of : Passed → List ℕ → List ℕ → Passed
-took_of p line input =
-    pick (stays p input) p
-    (pick (ltb (p.taken + length (piece p input)) (length input))
-    (passed_at (held_after p.held line (piece p input)) true (p.taken + length (piece p input) + 1) p.to false)
-    (passed_at (held_after p.held line (piece p input)) false (p.taken + length (piece p input)) p.to true))
-
-abbrev pub line_after : Passed → List ℕ → List ℕ → List ℕ
-line_after p line input = pick (stays p input) line (buffer_after p.held line (piece p input))
-
-abbrev pub answered_by : Passed → ℕ → ℕ → Passed
-answered_by p to room = pick (ltb room to) (passed_at p.held true p.taken p.to true) (passed_at nothing_held false p.taken to false)
+-- the same where no line waits
+abbrev pub PassesLines : {K : Type 0} → Machine K → Passed → K → List ℕ → K → List ℕ → List ℕ → ℕ → Type 0
+PassesLines m r k' page' k input page at = passed k' r.waits r.taken page' r.to ≡ pass_from m k input 0 (sheet page at)

@@ -1,76 +1,64 @@
-// A call, line by line. A program loops: `next`, then, where a line waits, its answer and `answered`,
-// until the call is over.
-ghost use Rattle.std.specs.Prelude.{◌≡◌};
-ghost use Rattle.lines.specs.Passing.{begun, took_of, line_after, answered_by};
+// A call, line by line.
+ghost use Rattle.lines.specs.Passing.{Passes, PassesLines};
 
-use crate::holding::{feed, nothing};
-use crate::{Held, Passed};
+use crate::{Passed, Program};
 
-// Before the chunk: what was held, and whether it waits for its answer.
-pub fn begin(held: Held, waits: bool, at: usize) -> Passed
-    ensures { result ≡ begun held waits at }
+// The lines that end in a chunk are answered, one after another, until one finds no room on the page
+// or the chunk is all taken.
+fn pass_lines<P: Program>(program: &mut P, input: &[u8], out: &mut [u8], at: usize) -> Passed
+    ensures { PassesLines P.machine result (P.kept program.new) out.new (P.kept program.old) input.now out.old at }
 {
-    Passed {
-        held,
-        waits,
-        taken: 0,
-        to: at,
-        over: false,
-    }
-}
-
-// Takes the chunk up to the end of the next line, unless a line waits. Where no line ends in the rest
-// of the chunk the call is over.
-pub fn next(p: Passed, line: &mut [u8], input: &[u8]) -> Passed
-    ensures { (result ≡ took_of p line.old input.now) × (line.new ≡ line_after p line.old input.now) }
-{
-    let from = p.taken;
-    if p.waits || input.len() < from {
-        return p;
-    }
-    let held = p.held;
-    let fed = feed(held, line, &input[from..]);
-    let known = fed.held;
-    let end = from + fed.taken;
-    if end < input.len() {
-        return Passed {
-            held: known,
-            waits: true,
-            taken: end + 1,
-            to: p.to,
-            over: false,
-        };
+    let mut taken = 0;
+    let mut to = at;
+    while taken < input.len() {
+        let end = taken + program.feed(&input[taken..]);
+        if input.len() <= end {
+            return Passed {
+                waits: false,
+                taken: end,
+                to,
+            };
+        }
+        let next = program.put_answer(out, to);
+        if out.len() < next {
+            return Passed {
+                waits: true,
+                taken: end + 1,
+                to,
+            };
+        }
+        program.begin_line();
+        taken = end + 1;
+        to = next;
     }
     Passed {
-        held: known,
         waits: false,
-        taken: end,
-        to: p.to,
-        over: true,
-    }
-}
-
-// After a line's answer, which ends at `to`. Where it has found no room on a page of so many bytes the
-// line waits, and the call is over.
-pub fn answered(p: Passed, to: usize, room: usize) -> Passed
-    ensures { result ≡ answered_by p to room }
-{
-    let held = p.held;
-    if room < to {
-        return Passed {
-            held,
-            waits: true,
-            taken: p.taken,
-            to: p.to,
-            over: true,
-        };
-    }
-    let empty = nothing();
-    Passed {
-        held: empty,
-        waits: false,
-        taken: p.taken,
+        taken,
         to,
-        over: false,
     }
+}
+
+// One call: the line that waits is answered first.
+pub fn pass<P: Program>(
+    program: &mut P,
+    waits: bool,
+    input: &[u8],
+    out: &mut [u8],
+    at: usize,
+) -> Passed
+    ensures { Passes P.machine result (P.kept program.new) out.new (P.kept program.old) waits input.now out.old at }
+{
+    if !waits {
+        return pass_lines(program, input, out, at);
+    }
+    let to = program.put_answer(out, at);
+    if out.len() < to {
+        return Passed {
+            waits: true,
+            taken: 0,
+            to: at,
+        };
+    }
+    program.begin_line();
+    pass_lines(program, input, out, to)
 }

@@ -1,4 +1,3 @@
 pub mod Names
 pub mod Fields
 pub mod Answers
-pub mod Clauses

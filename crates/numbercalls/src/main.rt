@@ -21,59 +21,41 @@
 // writes is the answers to the lines of its input, or a beginning of them where something fails.
 #![tactic(auto)]
 
-ghost use Rattle.std.specs.Prelude.{IfSome, length};
-ghost use Rattle.lines.specs.Machine.{text_of};
-ghost use Rattle.lines.specs.Held.{capped};
+ghost use Rattle.std.specs.Prelude.{IfSome};
 ghost use Rattle.textio.specs.Run.{Prints};
-ghost use Rattle.numbercalls.specs.Answers.{answered};
+ghost use Rattle.numbercalls.specs.Answers.{printed};
 
 mod calls;
 mod line_fields;
 mod replies;
 
+use crate::replies::Calls;
+use lines::Lines;
 use std::io::{Read, Write};
 use textio::Streams;
 
 const NAME: [u8; 11] = *b"numbercalls";
 
+// The longest line that is answered as it is.
+const LINE: usize = 1024;
+
 fn main(rt: HostRuntime) {
-    let mut streams = Streams {
-        input: rt.stdin(),
-        output: rt.stdout(),
-        errors: rt.stderr(),
-        failed: false,
-    };
-    let mut input = [0u8; textio::BUFFER];
-    let mut line = [0u8; 1024];
-    let mut page = [0u8; textio::BUFFER];
-    run(&mut streams, &mut input, &mut line, &mut page);
+    let mut streams = Streams::new(rt.stdin(), rt.stdout(), rt.stderr());
+    run(
+        &mut streams,
+        &mut [0u8; textio::BUFFER],
+        &mut [0u8; textio::BUFFER],
+    );
 }
 
-// A proved loop has to end, and nothing says that the input does. So the loop counts its turns down,
-// from a number that no run uses up; one that did would count as one that failed.
 fn run<R: Read, W: Write, E: Write>(
     streams: &mut Streams<R, W, E>,
     input: &mut [u8],
-    line: &mut [u8],
     page: &mut [u8],
 )
     ensures { IfSome (R.remaining streams.old.input) (λ bytes. Prints streams.new.failed
-        (W.contents streams.old.output) (W.contents streams.new.output)
-        (text_of (capped (length line.old) answered) bytes)) }
+        (W.contents streams.old.output) (W.contents streams.new.output) (printed bytes)) }
 {
-    let mut turns = u64::MAX;
-    let mut at = textio::start();
-    let mut held = lines::nothing();
-    while turns > 0 && at.more {
-        turns -= 1;
-        at = textio::fetch(&NAME, streams, input, at);
-        let from = at.from;
-        let to = at.to;
-        let p = replies::pass(held, at.waits, line, &input[from..to], page, 0);
-        held = p.held;
-        at = textio::store(&NAME, streams, page, p.to, p.taken, p.waits, at);
-    }
-    if at.more {
-        streams.failed = true;
-    }
+    let mut program: Lines<Calls, LINE> = Lines::new(Calls);
+    textio::run(&NAME, &mut program, streams, input, page);
 }

@@ -2,11 +2,11 @@
 ghost use Rattle.std.specs.Prelude.{◌≡◌};
 ghost use Rattle.text.specs.Sheet.{Puts};
 ghost use Rattle.numbercalls.specs.Answers.{is_call, call_text, answer_text, answered};
-ghost use Rattle.numbercalls.specs.Clauses.{Passes};
 
 use crate::calls::{put_raw, put_scale};
 use crate::line_fields::{Field, field_of};
 use columns::{same, word};
+use lines::Answers;
 use text::{put, put_malformed};
 
 // Whether a line is a call of this name, with so many spaces between its words.
@@ -39,33 +39,15 @@ fn put_reply(line: &[u8], out: &mut [u8], at: usize) -> usize
     put_call(f, line, out, at)
 }
 
-// .. with it.
-fn put_answer(line: &[u8], out: &mut [u8], at: usize) -> usize
-    ensures { Puts out.old at (answered line.now) out.new result }
-{
-    let to = put_reply(line, out, at);
-    put(out, to, b'\n')
-}
+// What answers the lines.
+#[derive(Drop)]
+pub(crate) struct Calls;
 
-// One call: the lines that end in a chunk are answered, the one that waits first.
-pub(crate) fn pass(
-    held: lines::Held,
-    waits: bool,
-    line: &mut [u8],
-    input: &[u8],
-    out: &mut [u8],
-    at: usize,
-) -> lines::Passed
-    ensures { Passes result line.new out.new held waits line.old input.now out.old at }
-{
-    let mut p = lines::begin(held, waits, at);
-    while !p.over {
-        p = lines::next(p, line, input);
-        if p.waits {
-            let known = p.held;
-            let to = put_answer(lines::line_of(known, line), out, p.to);
-            p = lines::answered(p, to, out.len());
-        }
+impl Answers for Calls {
+    ghost answered = { answered };
+
+    fn put_answer(&mut self, line: &[u8], out: &mut [u8], at: usize) -> usize {
+        let to = put_reply(line, out, at);
+        put(out, to, b'\n')
     }
-    p
 }

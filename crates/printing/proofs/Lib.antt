@@ -1,4 +1,4 @@
--- a chunk, line by line: what is kept of a line, and what of the call is left
+-- byte by byte, what is kept of a line
 pub mod Taking
 -- what is printed by what is kept of the lines is document 01's text for them
 pub mod Paper

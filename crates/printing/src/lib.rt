@@ -11,9 +11,11 @@
 
 mod answers;
 mod passing;
+mod program;
 
 pub use crate::answers::put_answer;
 pub use crate::passing::pass;
+pub use crate::program::Printing;
 use frames::Line;
 
 // A page with room for the answer to any line: proofs/Sizes.antt.

@@ -1,17 +1,12 @@
--- The contracts of the turns and of `pass`.
-use Rattle.std.specs.Prelude.{◌≡◌, ℕ, Bool, length}
+-- The contracts of the turns.
+use Rattle.std.specs.Prelude.{◌≡◌, ℕ, length}
 use mathlib.Core.List.{List, flat_map}
-use Rattle.text.specs.Sheet.{sheet, Puts}
-use Rattle.lines.specs.Machine.{Machine, passed, pass_of}
-use Rattle.lines.specs.Held.{Store, store, held}
-use Rattle.lines.specs.declared.Held.{Held}
-use Rattle.lines.specs.declared.Passed.{Passed}
+use Rattle.text.specs.Sheet.{Puts}
 use Rattle.tables.specs.Table.{table_of}
 use Rattle.fields.specs.Payload.{payload_of}
 use Rattle.reading.specs.Decode.{walk_of, readings, spans_of, readings_of}
 use Rattle.reading.specs.Clauses.{Decodes, walked_by}
 use Rattle.readcalls.specs.Lines.{reading_line}
-use Rattle.readcalls.specs.Answers.{answered}
 use Rattle.readcalls.specs.declared.turning.Turned.{Turned}
 
 -- `put_walk`: the lines of all readings of a walk are put, and what it came to is answered
@@ -25,12 +20,3 @@ Walks r page' words s room page at =
 abbrev pub Turns : Turned → List ℕ → List ℕ → List ℕ → List ℕ → List ℕ → ℕ → List ℕ → ℕ → Type 0
 Turns r run' page' words received run room page at =
     Puts page at (flat_map reading_line (readings_of (table_of words) received (length run) room)) page' r.to × Decodes r.decoded run' words received run room
-
--- the program
-abbrev pub readcalls : Machine Store
-readcalls = held answered
-
--- the answer r, and the line's buffer and the page at exit; of what is held and whether it waits, the buffer, the chunk, the page and the place
-abbrev pub Passes : Passed → List ℕ → List ℕ → Held → Bool → List ℕ → List ℕ → List ℕ → ℕ → Type 0
-Passes r buffer' page' h w buffer input page at =
-    passed (store r.held buffer') r.waits r.taken page' r.to ≡ pass_of readcalls (store h buffer) w input (sheet page at)

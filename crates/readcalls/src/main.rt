@@ -28,64 +28,42 @@
 // writes is the answers to the lines of its input, or a beginning of them where something fails.
 #![tactic(auto)]
 
-ghost use Rattle.std.specs.Prelude.{IfSome, length};
-ghost use Rattle.lines.specs.Machine.{text_of};
-ghost use Rattle.lines.specs.Held.{capped};
+ghost use Rattle.std.specs.Prelude.{IfSome};
 ghost use Rattle.textio.specs.Run.{Prints};
-ghost use Rattle.readcalls.specs.Answers.{answered};
+ghost use Rattle.readcalls.specs.Answers.{printed};
 
 mod alike;
 mod answers;
 mod replies;
 mod turning;
 
+use crate::replies::Cases;
+use lines::Lines;
 use std::io::{Read, Write};
 use textio::Streams;
 
 const NAME: [u8; 9] = *b"readcalls";
+
+// The longest line that is answered as it is.
+const LINE: usize = 8192;
 
 // A page holds the longest answer (proofs/Sizes.antt): a payload of at most 223 bytes has 1,785
 // readings at the most, and the line of each at most 160 bytes.
 const PAGE: usize = 524288;
 
 fn main(rt: HostRuntime) {
-    let mut streams = Streams {
-        input: rt.stdin(),
-        output: rt.stdout(),
-        errors: rt.stderr(),
-        failed: false,
-    };
-    let mut input = [0u8; textio::BUFFER];
-    let mut line = [0u8; 8192];
-    let mut page = [0u8; PAGE];
-    run(&mut streams, &mut input, &mut line, &mut page);
+    let mut streams = Streams::new(rt.stdin(), rt.stdout(), rt.stderr());
+    run(&mut streams, &mut [0u8; textio::BUFFER], &mut [0u8; PAGE]);
 }
 
-// A proved loop has to end, and nothing says that the input does. So the loop counts its turns down,
-// from a number that no run uses up; one that did would count as one that failed.
 fn run<R: Read, W: Write, E: Write>(
     streams: &mut Streams<R, W, E>,
     input: &mut [u8],
-    line: &mut [u8],
     page: &mut [u8],
 )
     ensures { IfSome (R.remaining streams.old.input) (λ bytes. Prints streams.new.failed
-        (W.contents streams.old.output) (W.contents streams.new.output)
-        (text_of (capped (length line.old) answered) bytes)) }
+        (W.contents streams.old.output) (W.contents streams.new.output) (printed bytes)) }
 {
-    let mut turns = u64::MAX;
-    let mut at = textio::start();
-    let mut held = lines::nothing();
-    while turns > 0 && at.more {
-        turns -= 1;
-        at = textio::fetch(&NAME, streams, input, at);
-        let from = at.from;
-        let to = at.to;
-        let p = replies::pass(held, at.waits, line, &input[from..to], page, 0);
-        held = p.held;
-        at = textio::store(&NAME, streams, page, p.to, p.taken, p.waits, at);
-    }
-    if at.more {
-        streams.failed = true;
-    }
+    let mut program: Lines<Cases, LINE> = Lines::new(Cases);
+    textio::run(&NAME, &mut program, streams, input, page);
 }

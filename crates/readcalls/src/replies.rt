@@ -6,12 +6,12 @@ ghost use Rattle.columns.specs.Numbers.{decimal_in};
 ghost use Rattle.tables.specs.Table.{table_of};
 ghost use Rattle.readcalls.specs.Lines.{untouched, last_line_lem, run_line, decode_text};
 ghost use Rattle.readcalls.specs.Answers.{padding_max, answered};
-ghost use Rattle.readcalls.specs.Clauses.{Passes};
 
 use crate::alike::{is_same, put_difference};
 use crate::answers::{UNTOUCHED, put_decoded, put_run};
 use crate::turning::put_turns;
 use columns::{Number, word};
+use lines::Answers;
 use reading::Decoded;
 
 const PADDING_MAX: u64 = 300;
@@ -98,51 +98,33 @@ fn is_case(spaces: usize, room: bool, padding: Number, table: bool, payload: boo
     (spaces == 3) & room & padding.good & (padding.value <= PADDING_MAX) & table & payload
 }
 
-// The answer to a line, with its newlines.
-fn put_answer(line: &[u8], out: &mut [u8], at: usize) -> usize
-    ensures { Puts out.old at (answered line.now) out.new result }
-{
-    let mut words = [0u64; 200];
-    let mut payload = [0u8; 300];
-    let room = number(line, 0);
-    let padding = number(line, 1);
-    let table = columns::words(word(line, 2), b',', &mut words);
-    let received = columns::bytes(word(line, 3), &mut payload);
-    let spaces = columns::marks(line, b' ');
-    if !is_case(spaces, room.good, padding, table.good, received.good) {
-        return text::put_text(out, at, b"F 14\n");
-    }
-    let n = table.len;
-    let m = received.len;
-    put_replay(
-        &words[0..n],
-        &payload[0..m],
-        place(padding.value),
-        place(room.value),
-        out,
-        at,
-    )
-}
+// What answers the lines.
+#[derive(Drop)]
+pub(crate) struct Cases;
 
-// One call: the lines that end in a chunk are answered, the one that waits first.
-pub(crate) fn pass(
-    held: lines::Held,
-    waits: bool,
-    line: &mut [u8],
-    input: &[u8],
-    out: &mut [u8],
-    at: usize,
-) -> lines::Passed
-    ensures { Passes result line.new out.new held waits line.old input.now out.old at }
-{
-    let mut p = lines::begin(held, waits, at);
-    while !p.over {
-        p = lines::next(p, line, input);
-        if p.waits {
-            let known = p.held;
-            let to = put_answer(lines::line_of(known, line), out, p.to);
-            p = lines::answered(p, to, out.len());
+impl Answers for Cases {
+    ghost answered = { answered };
+
+    fn put_answer(&mut self, line: &[u8], out: &mut [u8], at: usize) -> usize {
+        let mut words = [0u64; 200];
+        let mut payload = [0u8; 300];
+        let room = number(line, 0);
+        let padding = number(line, 1);
+        let table = columns::words(word(line, 2), b',', &mut words);
+        let received = columns::bytes(word(line, 3), &mut payload);
+        let spaces = columns::marks(line, b' ');
+        if !is_case(spaces, room.good, padding, table.good, received.good) {
+            return text::put_text(out, at, b"F 14\n");
         }
+        let n = table.len;
+        let m = received.len;
+        put_replay(
+            &words[0..n],
+            &payload[0..m],
+            place(padding.value),
+            place(room.value),
+            out,
+            at,
+        )
     }
-    p
 }

@@ -17,12 +17,12 @@
 // something fails.
 #![tactic(auto)]
 
-ghost use Rattle.std.specs.Prelude.{◌<◌, ◌≤◌, ◌^◌, IfSome, length};
+ghost use Rattle.std.specs.Prelude.{◌<◌, ◌^◌, IfSome, length};
 ghost use Rattle.lines.specs.Machine.{closed};
-ghost use Rattle.tables.specs.Check.{payload_max};
 ghost use Rattle.printing.specs.Text.{printed};
 ghost use Rattle.textio.specs.Run.{Prints};
 
+use printing::Printing;
 use std::io::{Read, Write};
 use tables::PAYLOAD_MAX;
 use textio::Streams;
@@ -30,43 +30,23 @@ use textio::Streams;
 const NAME: [u8; 8] = *b"samopute";
 
 fn main(rt: HostRuntime) {
-    let mut streams = Streams {
-        input: rt.stdin(),
-        output: rt.stdout(),
-        errors: rt.stderr(),
-        failed: false,
-    };
-    let mut input = [0u8; textio::BUFFER];
-    let mut payload = [0u8; PAYLOAD_MAX];
-    let mut page = [0u8; printing::PAGE];
-    run(&mut streams, &mut input, &mut payload, &mut page);
+    let mut streams = Streams::new(rt.stdin(), rt.stdout(), rt.stderr());
+    run(
+        &mut streams,
+        &mut [0u8; textio::BUFFER],
+        &mut [0u8; printing::PAGE],
+    );
 }
 
-// A proved loop has to end, and nothing says that the input does. So the loop counts its turns down,
-// from a number that no run uses up; one that did would count as one that failed.
 fn run<R: Read, W: Write, E: Write>(
     streams: &mut Streams<R, W, E>,
     input: &mut [u8],
-    payload: &mut [u8],
     page: &mut [u8],
 )
-    ensures { payload_max ≤ length payload.old → IfSome (R.remaining streams.old.input) (λ bytes.
-        length (closed bytes) < 2 ^ 64 → Prints streams.new.failed (W.contents streams.old.output)
+    ensures { IfSome (R.remaining streams.old.input) (λ bytes. length (closed bytes) < 2 ^ 64 →
+        Prints streams.new.failed (W.contents streams.old.output)
         (W.contents streams.new.output) (printed bytes)) }
 {
-    let mut turns = u64::MAX;
-    let mut at = textio::start();
-    let mut line = frames::empty_line();
-    while turns > 0 && at.more {
-        turns -= 1;
-        at = textio::fetch(&NAME, streams, input, at);
-        let from = at.from;
-        let to = at.to;
-        let p = printing::pass(line, at.waits, payload, &input[from..to], page, 0);
-        line = p.line;
-        at = textio::store(&NAME, streams, page, p.to, p.taken, p.waits, at);
-    }
-    if at.more {
-        streams.failed = true;
-    }
+    let mut program: Printing<PAYLOAD_MAX> = Printing::new();
+    textio::run(&NAME, &mut program, streams, input, page);
 }

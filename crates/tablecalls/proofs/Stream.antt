@@ -14,14 +14,13 @@ use Rattle.columns.specs.Parts.{space, parts_of}
 use Rattle.columns.specs.Runs.{values_of}
 use Rattle.lines.specs.Machine.{newline, closed}
 use Rattle.lines.specs.Calls.{Call, Sound, put, taken, waits_after}
-use Rattle.lines.specs.Held.{nothing_held, store, capped}
+use Rattle.lines.specs.Held.{nothing_held, store, held, capped}
 use Rattle.lines.specs.Program.{Program}
 use Rattle.lines.proofs.Alike.{same_text}
 use Rattle.lines.proofs.Programs.{program}
 use Rattle.tables.specs.Table.{table_of}
 use Rattle.tables.specs.Check.{Checked, check_of, letter_of}
 use Rattle.tablecalls.specs.Answers.{checked_text, is_table, answered, printed, line_max}
-use Rattle.tablecalls.specs.Clauses.{tablecalls}
 use Rattle.tablecalls.proofs.Short.{uncapped}
 
 -- the bytes of a page
@@ -55,6 +54,6 @@ stream = program answered line_max page_size (λ line. omega (arith, answer-size
 
 -- what calls put that take all of an input, until no line waits: the answer to each line, in order, however long the line
 pub prints : (buffer : List ℕ) → length buffer ≡ line_max → (cs : List Call) (input : List ℕ) → Sound cs
-    → taken tablecalls (store nothing_held buffer) false cs ≡ closed input → waits_after tablecalls (store nothing_held buffer) false cs ≡ false
-    → put tablecalls (store nothing_held buffer) false cs ≡ printed input
+    → taken (held answered) (store nothing_held buffer) false cs ≡ closed input → waits_after (held answered) (store nothing_held buffer) false cs ≡ false
+    → put (held answered) (store nothing_held buffer) false cs ≡ printed input
 prints buffer size cs input s e w = stream.prints buffer size cs input s e w ∙ same_text (capped line_max answered) answered uncapped input

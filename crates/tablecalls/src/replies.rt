@@ -3,8 +3,8 @@ ghost use Rattle.std.specs.Prelude.{◌≡◌};
 ghost use Rattle.text.specs.Sheet.{Puts};
 ghost use Rattle.tables.specs.Check.{letter_of};
 ghost use Rattle.tablecalls.specs.Answers.{checked_text, answered};
-ghost use Rattle.tablecalls.specs.Clauses.{Passes};
 
+use lines::Answers;
 use tables::{BrokenRule, TableRule};
 
 // The number of the refusal of a table, which carries the rule and the index.
@@ -28,39 +28,21 @@ fn put_checked(out: &mut [u8], at: usize, checked: Result<(), BrokenRule>) -> us
     }
 }
 
-// The answer to a line, with its newline.
-fn put_answer(line: &[u8], out: &mut [u8], at: usize) -> usize
-    ensures { Puts out.old at (answered line.now) out.new result }
-{
-    let mut words = [0u64; 200];
-    let run = columns::words(line, b' ', &mut words);
-    let n = run.len;
-    if !run.good {
-        return text::put_text(out, at, b"F 14\n");
-    }
-    let to = put_checked(out, at, tables::check(&words[0..n]));
-    text::put(out, to, b'\n')
-}
+// What answers the lines.
+#[derive(Drop)]
+pub(crate) struct Tables;
 
-// One call: the lines that end in a chunk are answered, the one that waits first.
-pub(crate) fn pass(
-    held: lines::Held,
-    waits: bool,
-    line: &mut [u8],
-    input: &[u8],
-    out: &mut [u8],
-    at: usize,
-) -> lines::Passed
-    ensures { Passes result line.new out.new held waits line.old input.now out.old at }
-{
-    let mut p = lines::begin(held, waits, at);
-    while !p.over {
-        p = lines::next(p, line, input);
-        if p.waits {
-            let known = p.held;
-            let to = put_answer(lines::line_of(known, line), out, p.to);
-            p = lines::answered(p, to, out.len());
+impl Answers for Tables {
+    ghost answered = { answered };
+
+    fn put_answer(&mut self, line: &[u8], out: &mut [u8], at: usize) -> usize {
+        let mut words = [0u64; 200];
+        let run = columns::words(line, b' ', &mut words);
+        let n = run.len;
+        if !run.good {
+            return text::put_text(out, at, b"F 14\n");
         }
+        let to = put_checked(out, at, tables::check(&words[0..n]));
+        text::put(out, to, b'\n')
     }
-    p
 }

@@ -7,14 +7,17 @@ use Rattle.std.specs.Io.KnownBytes.{Appends, Consumes, IsAtEnd}
 use Rattle.std.proofs.KnownBytes.{Appends-nil, Appends-trans}
 use Rattle.bits.specs.Bits.{pick}
 use Rattle.text.specs.Sheet.{sheet, lost}
-use Rattle.lines.specs.Machine.{Machine, passed, pass_of, pass_from, text_from, owes, newline, is_open, closed}
+use Rattle.lines.specs.Machine.{Machine, passed, pass_of, pass_from, text_from, text_of, owes, newline, is_open, closed}
+use Rattle.lines.specs.Held.{nothing_held, store, held, capped}
+use Rattle.lines.specs.declared.Held.{Held}
+use Rattle.lines.proofs.Capped.{exact}
 use Rattle.lines.specs.Calls.{taken_of, place_after}
 use Rattle.lines.proofs.Conserved.{Conserves, conserved}
 use Rattle.textio.specs.declared.Io.{Io}
 use Rattle.textio.specs.Io.{start_io, closed_io, due_in, moved_to, read_io, last_io, Fetches, chunk_of, fetched, IsOver, Begins, Stores}
 use Rattle.textio.specs.Run.{Prints, rest_of, unread, coming}
 
-never : {A : Type 0} → ◌≡◌ {A = Bool} true false → A
+pub never : {A : Type 0} → ◌≡◌ {A = Bool} true false → A
 never e = let z : ◌≡◌ {A = ℕ} 0 1 = cc in absurd (omega arith)
 
 -- ## Whether an input ends within a line
@@ -423,3 +426,18 @@ begins m k k₀ at chunk input left now failed e f g = rw (e, f, g) (starts m k�
 pub if_known : (left : Option (List ℕ)) (P : List ℕ → Type 0) → ((input : List ℕ) → left ≡ Some input → P input) → IfSome left P
 if_known None P h = tt
 if_known (Some input) P h = h input refl
+
+-- .. may be told otherwise
+pub known_of : (left : Option (List ℕ)) (P Q : List ℕ → Type 0) → ((input : List ℕ) → P input → Q input) → IfSome left P → IfSome left Q
+known_of None P Q h p = tt
+known_of (Some input) P Q h p = h input p
+
+-- what a run writes that holds its lines is the text of its lines alone
+pub printed-lines : (answered : List ℕ → List ℕ) (size : ℕ) (h : Held) (buffer : List ℕ) (left old new : Option (List ℕ)) (failed : Bool) → h ≡ nothing_held → length buffer ≡ size
+    → IfSome left (λ bytes. Prints failed old new (text_from (held answered) (store h buffer) (closed bytes)))
+    → IfSome left (λ bytes. Prints failed old new (text_of (capped size answered) bytes))
+printed-lines answered size h buffer None old new failed e n p = tt
+printed-lines answered size h buffer (Some bytes) old new failed e n p =
+    subst (Prints failed old new)
+    (ap (λ (x : Held). text_from (held answered) (store x buffer) (closed bytes)) e ∙ exact answered buffer (closed bytes) ∙ ap (λ (i : ℕ). text_of (capped i answered) bytes) n)
+    p

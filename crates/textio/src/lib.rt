@@ -6,13 +6,18 @@
 // on standard error, and the program ends; a line that a failed read cuts short is not answered.
 // Where a reader's bytes and a writer's are known, a contract says what is read and written: the input's
 // next bytes, each once, and the page, or a beginning of it where a write fails. What that comes to, turn
-// by turn, is proofs/Turns.antt: a run writes the text of its whole input (specs/Run.antt). Of standard
-// input and output no contract knows the bytes: that they are handed on is the kit's.
+// by turn, is proofs/Turns.antt: `run`, of any program of `lines`, writes the text of its whole input
+// (specs/Run.antt). Of standard input and output no contract knows the bytes: that they are handed on is
+// the kit's.
 #![tactic(auto)]
 
+ghost use Rattle.std.specs.Prelude.{◌≡◌, false};
+
 mod chunks;
+mod runs;
 
 pub use crate::chunks::{fetch, start, store};
+pub use crate::runs::run;
 
 // What a program reads from, writes to and says on standard error what fails; and whether anything has.
 #[derive(Drop)]
@@ -21,6 +26,20 @@ pub struct Streams<R, W, E> {
     pub output: W,
     pub errors: E,
     pub failed: bool,
+}
+
+impl<R, W, E> Streams<R, W, E> {
+    // Before anything has failed.
+    pub fn new(input: R, output: W, errors: E) -> Streams<R, W, E>
+        ensures { (result.input ≡ input) × ((result.output ≡ output) × ((result.errors ≡ errors) × (result.failed ≡ false))) }
+    {
+        Streams {
+            input,
+            output,
+            errors,
+            failed: false,
+        }
+    }
 }
 
 // The bytes of a chunk of the input, at the most, and of most programs' pages.

@@ -4,5 +4,5 @@ use Prim.Native.Nat.{ℕ}
 use lib.ListN.{length-replicate}
 use Rattle.readcalls.proofs.main.Goals as goal
 
-pub slice_bounds-run-end-3 : goal.slice_bounds-run-end-3
-slice_bounds-run-end-3 c = sym (length-replicate {A = ℕ} 524288 0)
+pub slice_bounds-run-end-2 : goal.slice_bounds-run-end-2
+slice_bounds-run-end-2 c = sym (length-replicate {A = ℕ} 524288 0)

@@ -1,0 +1,85 @@
+// What answers lines, and what holds them.
+ghost use Rattle.std.specs.Prelude.{◌≡◌, ℕ, List, length};
+ghost use Rattle.text.specs.Sheet.{Puts};
+ghost use Rattle.lines.specs.Machine.{Machine, up_to_newline, feds};
+ghost use Rattle.lines.specs.Held.{nothing_held, Store, store, held};
+
+use crate::Held;
+use crate::holding::{feed, line_of, nothing};
+
+// A program that answers lines, by what it holds of the line that is being taken.
+pub trait Program {
+    ghost Kept: { Type 0 };
+
+    ghost machine: { Machine Kept };
+
+    ghost kept: { Self → Kept };
+
+    // Takes a piece of the input into the line: up to a newline, or all of it. How many bytes it took.
+    fn feed(&mut self, input: &[u8]) -> usize
+        ensures taken { result ≡ length (up_to_newline input.now) }
+        ensures kept { kept self.new ≡ feds machine (kept self.old) (up_to_newline input.now) };
+
+    // Puts the answer to the line, with its newlines.
+    fn put_answer(&mut self, out: &mut [u8], at: usize) -> usize
+        ensures puts { Puts out.old at (machine.answer (kept self.old)) out.new result }
+        ensures kept { kept self.new ≡ kept self.old };
+
+    // The next line begins.
+    fn begin_line(&mut self)
+        ensures { kept self.new ≡ machine.fresh (kept self.old) };
+}
+
+// What answers whole lines, each by itself.
+pub trait Answers {
+    ghost answered: { List ℕ → List ℕ };
+
+    // Puts the answer to a line, with its newlines. What it works with may change; what it answers does
+    // not.
+    fn put_answer(&mut self, line: &[u8], out: &mut [u8], at: usize) -> usize
+        ensures { Puts out.old at (answered line.now) out.new result };
+}
+
+// A program that holds each line in a buffer of N bytes, until it is answered.
+#[derive(Drop)]
+pub struct Lines<A, const N: usize> {
+    pub held: Held,
+    pub line: [u8; N],
+    pub answers: A,
+}
+
+impl<A: Answers, const N: usize> Lines<A, N> {
+    // Before the first byte of a line.
+    pub fn new(answers: A) -> Lines<A, N>
+        ensures { result.held ≡ nothing_held }
+    {
+        Lines {
+            held: nothing(),
+            line: [0; N],
+            answers,
+        }
+    }
+}
+
+impl<A: Answers, const N: usize> Program for Lines<A, N> {
+    ghost Kept = { Store };
+
+    ghost machine = { held A.answered };
+
+    ghost kept = { λ s. store s.held s.line };
+
+    fn feed(&mut self, input: &[u8]) -> usize {
+        let fed = feed(self.held, &mut self.line, input);
+        self.held = fed.held;
+        fed.taken
+    }
+
+    fn put_answer(&mut self, out: &mut [u8], at: usize) -> usize {
+        self.answers
+            .put_answer(line_of(self.held, &self.line), out, at)
+    }
+
+    fn begin_line(&mut self) {
+        self.held = nothing();
+    }
+}
