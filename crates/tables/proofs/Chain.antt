@@ -1,29 +1,14 @@
 -- The rules one after the other: where each is kept nothing is refused, and rule a comes first. Assumes nothing.
 use mathlib.Core.Path.{◌≡◌, ap}
 use mathlib.Core.Bool.{true, false}
-use mathlib.Core.List.{List}
-use Prim.Native.Nat.{ℕ, ◌≤◌, ◌<◌}
-use native.Mathlib.Nat.{le_of_lt}
+use Prim.Native.Nat.{ℕ, ◌<◌}
 use native.Mathlib.Omega.{arith}
-use lib.Dec.{lit≤}
 use Rattle.std.specs.Prelude.{Option, None, Ok, Err}
 use Rattle.tables.specs.declared.TableRule.{TableRule}
 use Rattle.tables.specs.declared.TableRule.TheVariants.{A, B, C, D, E, F, G, H}
-use Rattle.tables.specs.Table.{Table, table_of}
-use Rattle.tables.specs.Check.{keeps, reach, found_from, settle, from_b, check_of, sizes_fit_lem, KeptField, KeptSet}
-use Rattle.tables.proofs.Missing.{count-lt, sets-lt}
+use Rattle.tables.specs.Table.{Table}
+use Rattle.tables.specs.Check.{keeps, found_from, settle, from_b, check_of, sizes_fit_lem, KeptField, KeptSet}
 use Rattle.tables.proofs.Searches.{none_found, found_here}
-
--- a rule speaks of fewer than 65,536 fields or sets
-pub reach-le : (rule : TableRule) (l : List ℕ) → reach rule (table_of l) ≤ 65536
-reach-le A l = lit≤ tt
-reach-le B l = le_of_lt (count-lt l)
-reach-le C l = le_of_lt (count-lt l)
-reach-le D l = le_of_lt (count-lt l)
-reach-le E l = le_of_lt (count-lt l)
-reach-le F l = le_of_lt (count-lt l)
-reach-le G l = le_of_lt (sets-lt l)
-reach-le H l = le_of_lt (sets-lt l)
 
 module _ (t : Table) where
   all-kept : (rule : TableRule) (n : ℕ) → ((j : ℕ) → j < n → keeps rule t j ≡ true) → found_from rule t 0 n ≡ None

@@ -1,5 +1,5 @@
 // The table check.
-ghost use Rattle.std.specs.Prelude.{◌≡◌, true, ◌≤◌, Ok};
+ghost use Rattle.std.specs.Prelude.{◌≡◌, true, Ok};
 ghost use Rattle.tables.specs.Table.{table_of};
 ghost use Rattle.tables.specs.Check.{found_from, first, from_b, check_of};
 
@@ -8,15 +8,9 @@ use crate::{BrokenRule, TableRule, kept, rules};
 
 // The lowest of the first n that breaks the rule.
 fn first_broken(words: &[u64], rule: TableRule, n: usize) -> Option<usize>
-    requires { n ≤ 65536 }
     ensures { result ≡ found_from rule (table_of words.now) 0 n }
 {
-    for i in 0..n {
-        if !rules::is_kept(words, rule, i) {
-            return Some(i);
-        }
-    }
-    None
+    (0..n).find(|&i| !rules::is_kept(words, rule, i))
 }
 
 // One rule by itself, wherever it speaks.

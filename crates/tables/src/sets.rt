@@ -10,24 +10,14 @@ fn in_set(words: &[u64], i: usize, k: usize) -> bool
     ensures { result ≡ in_set (table_of words.now) i k }
 {
     let s = set_at(words, k);
-    if s.start <= i {
-        return i - s.start < s.size;
-    }
-    false
+    s.start <= i && i - s.start < s.size
 }
 
 // Whether field i is in one of the first m sets.
 pub(crate) fn in_sets(words: &[u64], i: usize, m: usize) -> bool
     ensures { result ≡ in_sets_lem (table_of words.now) i m }
 {
-    let mut k = 0;
-    while k < m {
-        if in_set(words, i, k) {
-            return true;
-        }
-        k += 1;
-    }
-    false
+    (0..m).any(|k| in_set(words, i, k))
 }
 
 // Whether field i is in a set.
@@ -42,12 +32,9 @@ pub(crate) fn declared_bits(words: &[u64], i: usize, n: usize) -> usize
     requires { (i ≤ 65536) × (n ≤ 65536) }
     ensures { result ≡ declared_bits_lem (table_of words.now) i n }
 {
-    let mut sum: usize = 0;
-    let mut j: usize = 0;
-    while j < n {
-        let f = field_at(words, i + j);
-        sum += f.width as usize;
-        j += 1;
+    let mut sum = 0;
+    for j in 0..n {
+        sum += field_at(words, i + j).width as usize;
     }
     sum
 }
@@ -57,9 +44,7 @@ pub fn group_bits(words: &[u64], k: usize) -> usize
     ensures { result ≡ group_bits_lem (table_of words.now) k }
 {
     let s = set_at(words, k);
-    let start = s.start;
-    let size = s.size;
-    declared_bits(words, start, size)
+    declared_bits(words, s.start, s.size)
 }
 
 // Where the set before set k ends.

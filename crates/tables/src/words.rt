@@ -9,7 +9,7 @@ use descriptor::FieldDescriptor;
 fn word(words: &[u64], i: usize) -> u64
     ensures { result ≡ get_or words.now i 0 }
 {
-    if i < words.len() { words[i] } else { 0 }
+    words.get(i).copied().unwrap_or(0)
 }
 
 // 16 bits of a word.
@@ -67,9 +67,10 @@ fn field_word(words: &[u64], i: usize) -> u64
     ensures { result ≡ get_or words.now (1 + i) 0 }
 {
     if i < words.len() {
-        return word(words, 1 + i);
+        word(words, 1 + i)
+    } else {
+        0
     }
-    0
 }
 
 pub fn field_at(words: &[u64], i: usize) -> FieldDescriptor
@@ -78,28 +79,17 @@ pub fn field_at(words: &[u64], i: usize) -> FieldDescriptor
     field_of(field_word(words, i))
 }
 
-// A width up to 64, else 0.
-fn short_width(width: u32) -> u32
-    ensures { result ≡ pick (leb width 64) width 0 }
-{
-    if width <= 64 { width } else { 0 }
-}
-
 // The width of the field that a word is, if it is a simple number, else 0.
 fn simple_in(w: u64) -> u32
     ensures { result ≡ simple_width_lem w }
 {
     let code = w % 0x100;
     let width = ((w >> 8) % 0x1_0000) as u32;
-    if w >> 24 == 0 {
-        if code == 0 {
-            return short_width(width);
-        }
-        if code == 2 {
-            return short_width(width);
-        }
+    if w >> 24 == 0 && (code == 0 || code == 2) && width <= 64 {
+        width
+    } else {
+        0
     }
-    0
 }
 
 // The width of field i if it is a Number or Lookup of 1 to 64 bits, without a sign, a mark or a
@@ -114,15 +104,11 @@ pub fn simple_width(words: &[u64], i: usize) -> u32
 fn set_of(w: u64) -> RepeatingFieldSet
     ensures { result ≡ set_of_lem w }
 {
-    let start = low16(w);
-    let size = low16(w >> 16);
-    let counter = low16(w >> 32);
-    let maximum = low16(w >> 48);
     RepeatingFieldSet {
-        start,
-        size,
-        counter,
-        maximum,
+        start: low16(w),
+        size: low16(w >> 16),
+        counter: low16(w >> 32),
+        maximum: low16(w >> 48),
     }
 }
 

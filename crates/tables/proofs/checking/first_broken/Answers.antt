@@ -1,15 +1,13 @@
--- Each before i keeps the rule, so the search is the same from i on.
-use mathlib.Core.Path.{sym, ◌∙◌}
-use native.Mathlib.Omega.{arith}
+-- The first that breaks the rule is the one that the search finds.
+use Rattle.std.proofs.Common.{◌≡◌, true, false, rules, tests}
+use Rattle.std.proofs.lemmas.Iterator.{first_from_Range}
 use Rattle.tables.specs.Table.{table_of}
-use Rattle.tables.proofs.Searches.{found-later, found_here, found_none}
+use Rattle.tables.specs.Check.{keeps}
+use Rattle.tables.proofs.Searches.{found-first}
 use Rattle.tables.proofs.checking.first_broken.Goals as goal
 
-pub loop-i-preserved : goal.loop-i-preserved
-loop-i-preserved c = c.loop-i.invariant ∙ found-later c.args.rule (table_of c.args.words.now) c.loop-i.i c.args.n c.loop-i-test.true (sym c.is_kept.ensures ∙ c.if-not-is_kept.false)
-
-pub returns-then-not-is_kept : goal.returns-then-not-is_kept
-returns-then-not-is_kept c = sym (c.loop-i.invariant ∙ found_here c.args.rule (table_of c.args.words.now) c.loop-i.i c.args.n c.loop-i-test.true (sym c.is_kept.ensures ∙ c.if-not-is_kept.true))
-
 pub returns : goal.returns
-returns c = sym (c.loop-i.invariant ∙ found_none c.args.rule (table_of c.args.words.now) c.loop-i.i c.args.n (omega arith))
+returns c =
+    let t = table_of c.args.words.now in
+    found-first c.args.rule t c.args.n c.find.result
+    (first_from_Range _ _ _ _ (λ i. keeps c.args.rule t i ≡ false) (λ i. keeps c.args.rule t i ≡ true) c.find.ensures.ran (λ x q k. search (rules, tests)) (λ x q k. search (rules, tests)))

@@ -16,5 +16,5 @@ top = refl
 pub returns-then-r : goal.returns-then-r
 returns-then-r c = ap (le c.args.r) top ∙ ap (λ (b : Bool). b && le c.args.r (fin false 1 (pos 20))) (sym (sym (ap (λ (x : Float). le x c.args.r) low) ∙ c.if-r.true))
 
-pub returns : goal.returns
-returns c = ap (λ (b : Bool). b && le c.args.r (fin false 1 (pos 20))) (sym (sym (ap (λ (x : Float). le x c.args.r) low) ∙ c.if-r.false))
+pub returns-else-r : goal.returns-else-r
+returns-else-r c = c.if-r.false ∙ ap (λ (b : Bool). b && le c.args.r (fin false 1 (pos 20))) (sym (sym (ap (λ (x : Float). le x c.args.r) low) ∙ c.if-r.false))

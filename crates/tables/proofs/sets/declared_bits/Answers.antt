@@ -11,12 +11,11 @@ use Rattle.tables.proofs.sets.declared_bits.Goals as goal
 
 pub loop-j-init : goal.loop-j-init
 unfolding declared_bits_lem
-loop-j-init c = (omega arith, (omega arith, refl))
+loop-j-init c = (omega arith, refl)
 
 pub loop-j-preserved : goal.loop-j-preserved
 loop-j-preserved c =
-    let narrow : c.field_at-f.result.width < 65536 =
-    subst (λ (f : FieldDescriptor). f.width < 65536) (sym c.field_at-f.ensures) (width-lt c.args.words.now (c.args.i + c.loop-j.j)) in
     let t = table_of c.args.words.now in
-    let w = narrow in
-    (omega arith, (omega (arith, w), ap₂ (λ (x y : ℕ). x + y) c.loop-j.invariant.1.1 (ap (λ (d : FieldDescriptor). d.width) c.field_at-f.ensures) ∙ sym (bits-more t c.args.i c.loop-j.j)))
+    let w : c.field_at.result.width < 65536 =
+    subst (λ (f : FieldDescriptor). f.width < 65536) (sym c.field_at.ensures) (width-lt c.args.words.now (c.args.i + c.loop-j.j)) in
+    (omega (arith, w), ap₂ (λ (x y : ℕ). x + y) c.loop-j.invariant.1 (ap (λ (d : FieldDescriptor). d.width) c.field_at.ensures) ∙ sym (bits-more t c.args.i c.loop-j.j))

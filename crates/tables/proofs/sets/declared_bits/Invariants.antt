@@ -1,12 +1,9 @@
 -- The sum is that of the first j fields.
 use mathlib.Core.Path.{◌≡◌}
-use Prim.Native.Nat.{◌-◌, ◌*◌, ◌≤◌}
+use Prim.Native.Nat.{◌*◌, ◌≤◌}
 use Rattle.tables.specs.Table.{table_of}
 use Rattle.tables.specs.Rules.{declared_bits_lem}
 use Rattle.tables.proofs.sets.declared_bits.Given as goal
 
 abbrev pub invariant-loop-j : goal.invariant-loop-j
-invariant-loop-j l = (l.j ≤ l.n) × ((l.sum ≤ 65535 * l.j) × (l.sum ≡ declared_bits_lem (table_of l.words) l.i l.j))
-
-abbrev pub decreases-loop-j : goal.decreases-loop-j
-decreases-loop-j l = l.n - l.j
+invariant-loop-j l = (l.sum ≤ 65535 * l.j) × (l.sum ≡ declared_bits_lem (table_of l.words) l.i l.j)
