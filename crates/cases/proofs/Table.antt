@@ -30,7 +30,6 @@ use Rattle.tables.specs.Table.{Table, table_of}
 use Rattle.tables.specs.Rules.{in_sets_lem, declared_bits_lem}
 use Rattle.tables.specs.Check.{found_from}
 use Rattle.tables.specs.declared.TableRule.TheVariants as rule
-use Rattle.walking.specs.declared.Element.TheVariants.{Outside, At}
 use Rattle.walking.specs.Runs.{guard, after, and_then, times}
 use Rattle.walking.specs.Walk.{check, lift, place_from, element_at, group_at, field_by_lem, field_at, walk_from}
 use Rattle.fields.specs.declared.DecodeRefusal.{DecodeRefusal}
@@ -212,9 +211,9 @@ refusal-lines = (refl, refl, refl, refl, refl, refl, refl, refl, refl)
 
 -- "N is not available", with an element; "a raw that is none prints place:length in decimal"
 reading-lines :
-    (reading_line (record { field = 17; element = At 1; start = bits 376; bits = bits 16; raw = Some 0xFFFF; value = U16 0xFFFF; availability = NotAvailable })
+    (reading_line (record { field = 17; element = Some 1; start = bits 376; bits = bits 16; raw = Some 0xFFFF; value = U16 0xFFFF; availability = NotAvailable })
     ≡ 82 ∷ 32 ∷ 49 ∷ 55 ∷ 32 ∷ 49 ∷ 32 ∷ 51 ∷ 55 ∷ 54 ∷ 32 ∷ 49 ∷ 54 ∷ 32 ∷ 78 ∷ 32 ∷ 70 ∷ 70 ∷ 70 ∷ 70 ∷ 10 ∷ [])
-    × (reading_line (record { field = 2; element = Outside; start = bits 8; bits = bits 32; raw = None; value = text_at_lem 2 12 None; availability = Available })
+    × (reading_line (record { field = 2; element = None; start = bits 8; bits = bits 32; raw = None; value = text_at_lem 2 12 None; availability = Available })
     ≡ 82 ∷ 32 ∷ 50 ∷ 32 ∷ 45 ∷ 32 ∷ 56 ∷ 32 ∷ 51 ∷ 50 ∷ 32 ∷ 65 ∷ 32 ∷ 50 ∷ 58 ∷ 49 ∷ 50 ∷ 10 ∷ [])
 unfolding reading_line higher
 reading-lines = (refl, refl)

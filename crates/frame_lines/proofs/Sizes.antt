@@ -4,6 +4,7 @@ use mathlib.Core.List.{List, [], ◌∷◌, ◌++◌, flat_map}
 use Prim.Native.Nat.{ℕ, ◌+◌, ◌*◌, ◌≤◌, ◌<◌}
 use native.Mathlib.Omega.{arith}
 use lib.ListN.{length}
+use Rattle.walking.specs.Walk.{Element}
 use Rattle.std.specs.Prelude.{Option, Some, None}
 use Rattle.text.specs.Digits.{decimal_of, spaced}
 use Rattle.text.specs.Refusals.{refused_text}
@@ -13,8 +14,6 @@ use Rattle.descriptor.specs.declared.Availability.TheVariants.{Available, NotAva
 use Rattle.descriptor.specs.declared.PgnValue.{PgnValue}
 use Rattle.descriptor.specs.declared.PgnValue.TheVariants.{U64, U32, U16, U8, I64, I32, I16, I8, F64, F32, Bytes}
 use Rattle.tables.specs.Table.{Table}
-use Rattle.walking.specs.declared.Element.{Element}
-use Rattle.walking.specs.declared.Element.TheVariants.{Outside, At}
 use Rattle.fields.specs.declared.DecodeRefusal.{DecodeRefusal}
 use Rattle.fields.specs.Refusals.{number_of, carried_of}
 use Rattle.fields.specs.Payload.{Payload}
@@ -28,8 +27,8 @@ use Rattle.frame_lines.specs.Decode.{reading_lines, last_line_lem, walk_text}
 use Rattle.frame_lines.proofs.Carried.{few}
 
 element-size : (e : Element) → length (element_text e) ≤ 21
-element-size Outside = omega arith
-element-size (At k) = spaced-size k
+element-size None = omega arith
+element-size (Some k) = spaced-size k
 
 availability-size : (a : Availability) → length (availability_text a) ≤ 3
 availability-size Available = omega arith

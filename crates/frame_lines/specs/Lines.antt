@@ -1,4 +1,5 @@
 -- The lines that the printing program prints: document 01, the end of "Cases". Each ends in a newline.
+use Rattle.walking.specs.Walk.{Element}
 use Rattle.std.specs.Prelude.{ℕ, List, [], ◌∷◌, ◌++◌, Option, Some, None}
 use Rattle.text.specs.Digits.{decimal_of, hex_of, fixed, spaced}
 use Rattle.text.specs.Refusals.{refused_text, malformed_text}
@@ -7,8 +8,6 @@ use Rattle.descriptor.specs.declared.Availability.TheVariants.{Available, NotAva
 use Rattle.descriptor.specs.declared.PgnBytes.{PgnBytes}
 use Rattle.descriptor.specs.declared.PgnValue.{PgnValue}
 use Rattle.descriptor.specs.declared.PgnValue.TheVariants.{U64, U32, U16, U8, I64, I32, I16, I8, F64, F32, Bytes}
-use Rattle.walking.specs.declared.Element.{Element}
-use Rattle.walking.specs.declared.Element.TheVariants.{Outside, At}
 use Rattle.fields.specs.declared.DecodeRefusal.{DecodeRefusal}
 use Rattle.fields.specs.Refusals.{number_of, carried_of}
 use Rattle.reading.specs.declared.Reading.{Reading}
@@ -20,8 +19,8 @@ newline = 10 ∷ []
 
 -- the element, " -" where there is none
 abbrev pub element_text : Element → List ℕ
-element_text Outside = 32 ∷ 45 ∷ []
-element_text (At k) = spaced k
+element_text None = 32 ∷ 45 ∷ []
+element_text (Some k) = spaced k
 
 -- " A ", or " N ": "N is not available"
 abbrev pub availability_text : Availability → List ℕ

@@ -6,18 +6,17 @@ use descriptor::{Availability, PgnBytes, PgnValue};
 use fields::DecodeRefusal;
 use reading::Reading;
 use text::{put, put_decimal, put_fixed_hex, put_hex, put_number, put_refused, put_text};
-use walking::Element;
 
 // How many digits a PGN has.
 const PGN_DIGITS: usize = 6;
 
 // The element that a field stands in, if it does.
-fn put_element(out: &mut [u8], at: usize, e: Element) -> usize
+fn put_element(out: &mut [u8], at: usize, e: Option<usize>) -> usize
     ensures { Puts out.old at (element_text e) out.new result }
 {
     match e {
-        Element::Outside => put_text(out, at, b" -"),
-        Element::At(k) => put_number(out, at, k),
+        None => put_text(out, at, b" -"),
+        Some(k) => put_number(out, at, k),
     }
 }
 

@@ -6,7 +6,6 @@ use Rattle.bits.specs.Calls.{bits}
 use Rattle.descriptor.specs.declared.Availability.TheVariants.{Available}
 use Rattle.descriptor.specs.declared.PgnValue.TheVariants.{U8}
 use Rattle.tables.specs.Table.{Table}
-use Rattle.walking.specs.declared.Element.TheVariants.{Outside}
 use Rattle.fields.specs.declared.DecodeRefusal.{DecodeRefusal}
 use Rattle.fields.specs.Payload.{payload_of}
 use Rattle.reading.specs.declared.Reading.{Reading}
@@ -22,7 +21,7 @@ use Rattle.lent_readings.specs.declared.Step.{Step}
 
 -- what stands where there is no reading
 abbrev pub blank : Reading
-blank = record { field = 0; element = Outside; start = bits 0; bits = bits 0; raw = None; value = U8 0; availability = Available }
+blank = record { field = 0; element = None; start = bits 0; bits = bits 0; raw = None; value = U8 0; availability = Available }
 
 -- before the first turn
 abbrev pub fresh_step : Step

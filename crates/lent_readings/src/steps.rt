@@ -10,7 +10,6 @@ use bits::BitPos;
 use descriptor::{Availability, PgnValue};
 use fields::DecodeRefusal;
 use reading::{Answer, Decoded, Next, Reading, Walk};
-use walking::Element;
 
 // What stands where there is no reading. It is never stored.
 fn no_reading() -> Reading
@@ -18,7 +17,7 @@ fn no_reading() -> Reading
 {
     Reading {
         field: 0,
-        element: Element::Outside,
+        element: None,
         start: BitPos(0),
         bits: BitPos(0),
         raw: None,

@@ -10,10 +10,8 @@ use Rattle.std.specs.Prelude.{Option, Some, None, Result, Ok}
 use Rattle.descriptor.specs.declared.FieldDescriptor.{FieldDescriptor}
 use Rattle.tables.specs.Table.{Table}
 use Rattle.tables.specs.Check.{check_of, set_max}
-use Rattle.walking.specs.declared.Element.{Element}
-use Rattle.walking.specs.declared.Element.TheVariants.{Outside, At}
 use Rattle.walking.specs.Runs.{ran}
-use Rattle.walking.specs.Walk.{One, hit}
+use Rattle.walking.specs.Walk.{One, hit, Element}
 use Rattle.walking.proofs.Visits.{All, all_left, all_right, all_append, all_map, all-zip, ending-before}
 use Rattle.walking.proofs.Alike.{runs-alike}
 use Rattle.fields.specs.declared.DecodeRefusal.{DecodeRefusal}
@@ -48,9 +46,9 @@ uncounted-to t i r cs h zero l = refl
 uncounted-to t i r cs h (suc k) l = rw (ne_eqb (t.set k).counter i (h k (omega arith))) (uncounted-to t i r cs h k (omega arith))
 
 uncounted : (t : Table) (e : Element) (i : ℕ) (r : Option ℕ) (cs : List ℕ) → Uncounted t i → noted_by_lem t e i r cs ≡ cs
-uncounted t Outside i (Some r) cs h = uncounted-to t i r cs h (min t.sets set_max) (omega arith)
-uncounted t Outside i None cs h = refl
-uncounted t (At e) i r cs h = refl
+uncounted t None i (Some r) cs h = uncounted-to t i r cs h (min t.sets set_max) (omega arith)
+uncounted t None i None cs h = refl
+uncounted t (Some e) i r cs h = refl
 
 -- ## Two payloads of one length
 

@@ -8,7 +8,7 @@ use Prim.Native.Nat.{ℕ, ◌+◌, ◌-◌, ◌*◌, ◌/◌, ◌%◌, ◌≤◌
 use native.Mathlib.Omega.{arith}
 use lib.Dec.{eqb, leb, ltb}
 use borrow.Author.Tests.{leb-true, eq-eqb, le-leb, lt-ltb}
-use Rattle.std.specs.Prelude.{Ok}
+use Rattle.std.specs.Prelude.{Ok, Some}
 use Rattle.bits.specs.Bits.{pick}
 use Rattle.descriptor.specs.declared.FieldKind.{FieldKind}
 use Rattle.descriptor.specs.declared.FieldKind.TheVariants as kind
@@ -18,10 +18,8 @@ use Rattle.tables.specs.Check.{check_of}
 use Rattle.tables.proofs.Accepted as accepted
 use Rattle.tables.proofs.Accepted.{placed, widths}
 use Rattle.tables.proofs.Searches.{in_one}
-use Rattle.walking.specs.declared.Element.{Element}
-use Rattle.walking.specs.declared.Element.TheVariants.{At}
 use Rattle.walking.specs.Runs.{ran, stopped}
-use Rattle.walking.specs.Walk.{hit}
+use Rattle.walking.specs.Walk.{hit, Element}
 use Rattle.walking.proofs.Visits.{All, Ending}
 use Rattle.walking.proofs.Lawful.{Looks, plain, member, Ends, ends-walk, ran_ends, stopped-ends}
 use Rattle.fields.specs.declared.DecodeRefusal.{DecodeRefusal}
@@ -119,7 +117,7 @@ module _ (t : Table) (ok : check_of t ≡ Ok tt) where
       let d : start + j - start < (t.set k).size = omega arith in
       let c : ltb (start + j - start) (t.set k).size ≡ true = lt-ltb _ _ d in
       let b : in_set t (start + j) k ≡ true = rw (a, c) in
-      let o = accepted.last t ok (start + j) (in_table (start + j) (At x) false (member k x j l m)) (ap class_of_lem h) in
+      let o = accepted.last t ok (start + j) (in_table (start + j) (Some x) false (member k x j l m)) (ap class_of_lem h) in
       absurd (true≢false (sym (in_one t (start + j) k t.sets l b) ∙ o.1))
 
   module _ (p : Payload) (room : ℕ) where

@@ -11,10 +11,9 @@ use Rattle.bits.specs.Bits.{pick}
 use Rattle.tables.specs.Table.{Table}
 use Rattle.tables.specs.Check.{check_of}
 use Rattle.tables.proofs.Accepted.{sizes, placed}
-use Rattle.walking.specs.declared.Element.{Element}
 use Rattle.walking.specs.declared.Place.TheVariants.{Starts}
 use Rattle.walking.specs.Runs.{Run}
-use Rattle.walking.specs.Walk.{One, hit, check, place_of}
+use Rattle.walking.specs.Walk.{One, hit, check, place_of, Element}
 use Rattle.walking.specs.Turns.{Turn, moved, met, ended, broke}
 use Rattle.walking.proofs.Machine.{starts-one, Bounded, weight, Falls, moved-falls, met-falls, falls, Stands, stands-begin, stands-moved, stands-met, stands-ended, stands-broke, Meets, meets, met-law, moved-law, ended-law, broke-law}
 use Rattle.fields.specs.declared.DecodeRefusal.{DecodeRefusal}

@@ -10,9 +10,8 @@ use borrow.Author.Tests.{ltb-false}
 use Rattle.std.specs.Prelude.{Result, Ok, Err}
 use Rattle.bits.specs.declared.BitPos.{BitPos}
 use Rattle.tables.specs.Table.{Table}
-use Rattle.walking.specs.declared.Element.{Element}
 use Rattle.walking.specs.Runs.{ran, stopped}
-use Rattle.walking.specs.Walk.{One, hit, miss, check, walk_from}
+use Rattle.walking.specs.Walk.{One, hit, miss, check, walk_from, Element}
 use Rattle.walking.proofs.Visits.{All, all_append}
 use Rattle.walking.proofs.Lawful.{Looks, plain, member, Lawful, lawful-fields, lawful-ran, lawful-stopped}
 use Rattle.fields.specs.declared.DecodeRefusal.{DecodeRefusal}

@@ -9,9 +9,8 @@ use lib.Dec.{ltb}
 use borrow.Author.Tests.{ltb-true}
 use Rattle.std.specs.Prelude.{Result, Ok, Err}
 use Rattle.tables.specs.Table.{Table}
-use Rattle.walking.specs.declared.Element.{Element}
 use Rattle.walking.specs.Runs.{Run, ran, stopped}
-use Rattle.walking.specs.Walk.{One, hit, check, walk_from}
+use Rattle.walking.specs.Walk.{One, hit, check, walk_from, Element}
 use Rattle.walking.proofs.Lawful.{Lawful, lawful-ran, lawful-stopped, lawful-fields}
 use Rattle.walking.specs.Turns.{Turn, moved, met, ended, broke}
 use Rattle.walking.proofs.Machine.{Meets, meets, met-law}

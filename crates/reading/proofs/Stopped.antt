@@ -12,9 +12,8 @@ use Rattle.std.specs.Prelude.{Result, Ok, Err}
 use Rattle.descriptor.specs.declared.FieldDescriptor.{FieldDescriptor}
 use Rattle.tables.specs.Table.{Table}
 use Rattle.tables.specs.Check.{check_of, payload_max}
-use Rattle.walking.specs.declared.Element.{Element}
 use Rattle.walking.specs.Runs.{Run, ran, stopped}
-use Rattle.walking.specs.Walk.{hit, miss, check, walk_from}
+use Rattle.walking.specs.Walk.{hit, miss, check, walk_from, Element}
 use Rattle.walking.proofs.Lawful.{Looks, Lawful, lawful-stopped, lawful-fields}
 use Rattle.fields.specs.declared.DecodeRefusal.{DecodeRefusal}
 use Rattle.fields.specs.declared.DecodeRefusal.TheVariants.{NoRoom}

@@ -10,12 +10,11 @@ use Rattle.bits.specs.Bits.{pick}
 use Rattle.bits.specs.declared.BitPos.{BitPos}
 use Rattle.descriptor.specs.declared.PgnValue.{PgnValue}
 use Rattle.tables.specs.Table.{Table}
-use Rattle.walking.specs.declared.Element.{Element}
 use Rattle.walking.specs.declared.Spot.{Spot}
 use Rattle.walking.specs.declared.Spot.TheVariants as spot
 use Rattle.walking.specs.declared.Look.{Look}
 use Rattle.walking.specs.declared.Look.TheVariants.{Enter}
-use Rattle.walking.specs.Walk.{hit, check}
+use Rattle.walking.specs.Walk.{hit, check, Element}
 use Rattle.walking.specs.Turns.{moved, broke, either, seen}
 use Rattle.walking.specs.Looks.{look_of}
 use Rattle.walking.proofs.Looked.{looked}

@@ -4,9 +4,8 @@ use Rattle.std.specs.Prelude.{ℕ, ◌+◌, List, [], ◌∷◌, Bool, length, g
 use Rattle.bits.specs.Calls.{bits}
 use Rattle.tables.specs.Table.{Table}
 use Rattle.tables.specs.Check.{set_max}
-use Rattle.walking.specs.declared.Element.{Element}
 use Rattle.walking.specs.Runs.{Run, ran, stopped}
-use Rattle.walking.specs.Walk.{One, hit, miss, check, walk_from}
+use Rattle.walking.specs.Walk.{One, hit, miss, check, walk_from, Element}
 use Rattle.fields.specs.declared.DecodeRefusal.{DecodeRefusal}
 use Rattle.fields.specs.declared.DecodeRefusal.TheVariants.{NoRoom}
 use Rattle.fields.specs.declared.Shape.{Shape}

@@ -2,12 +2,11 @@
 -- skipped ones included, cover each bit from 0 to the reported end once. Change the bits of one number that is no group counter and lies
 -- wholly in the received bytes: the payload still decodes, every span and every other reading stays the same, and that reading's raw is the
 -- new bits." Definitions only: that it holds is `proofs/Demand3.antt`.
-use Rattle.std.specs.Prelude.{◌≡◌, ℕ, ◌+◌, ◌*◌, ◌%◌, ◌^◌, ◌≤◌, ◌<◌, Bool, false, ◌&&◌, List, [], ◌∷◌, ◌++◌, eqb, leb, ltb, length, Some, Ok}
+use Rattle.walking.specs.Walk.{Element}
+use Rattle.std.specs.Prelude.{◌≡◌, ℕ, ◌+◌, ◌*◌, ◌%◌, ◌^◌, ◌≤◌, ◌<◌, Bool, false, ◌&&◌, List, [], ◌∷◌, ◌++◌, eqb, leb, ltb, length, Some, Ok, None}
 use Rattle.bits.specs.Bits.{pick, written}
 use Rattle.tables.specs.Table.{Table}
 use Rattle.tables.specs.Check.{payload_max}
-use Rattle.walking.specs.declared.Element.{Element}
-use Rattle.walking.specs.declared.Element.TheVariants.{Outside, At}
 use Rattle.walking.specs.Runs.{ran}
 use Rattle.fields.specs.declared.Shape.{Shape}
 use Rattle.fields.specs.declared.Shape.TheVariants.{Number, Gap, Fixed, Whole, Lau, Lz}
@@ -47,8 +46,8 @@ total (v ∷ vs) = v.bits.0 + total vs
 
 -- whether field i, of element e, is "the last field of the table, outside a set"
 abbrev pub last_by : Table → ℕ → Element → Bool
-last_by t i Outside = eqb (i + 1) t.count
-last_by t i (At e) = false
+last_by t i None = eqb (i + 1) t.count
+last_by t i (Some e) = false
 
 -- "the bits that demand 2's rules give each field met": the span's bits are those that its field takes where it starts
 abbrev pub Ruled : Table → Payload → Span → Type 0

@@ -1,4 +1,5 @@
 -- Counters and the elements of a set: document 01, "Reading a payload", "Group count".
+use Rattle.walking.specs.Walk.{Element}
 use Rattle.std.specs.Prelude.{ℕ, zero, suc, ◌/◌, min, List, set, leb, eqb, Result, Ok, Err, Option, Some, None}
 use Rattle.bits.specs.Bits.{pick}
 use Rattle.tables.specs.Table.{Table}
@@ -6,8 +7,6 @@ use Rattle.tables.specs.Rules.{group_bits_lem}
 use Rattle.tables.specs.Check.{set_max}
 use Rattle.numbers.specs.Scaling.{bits_of}
 use Rattle.numbers.specs.Special.{elements_of}
-use Rattle.walking.specs.declared.Element.{Element}
-use Rattle.walking.specs.declared.Element.TheVariants.{Outside, At}
 use Rattle.fields.specs.declared.DecodeRefusal.{DecodeRefusal}
 use Rattle.fields.specs.declared.DecodeRefusal.TheVariants.{RepetitionsExceedCapacity}
 
@@ -22,9 +21,9 @@ noted t i r cs = noted_to t i r cs (min t.sets set_max)
 
 -- a field in a set, and one that has no raw, counts nothing: rule h, "is in no set"
 abbrev pub noted_by_lem : Table → Element → ℕ → Option ℕ → List ℕ → List ℕ
-noted_by_lem t Outside i (Some r) cs = noted t i r cs
-noted_by_lem t Outside i None cs = cs
-noted_by_lem t (At e) i r cs = cs
+noted_by_lem t None i (Some r) cs = noted t i r cs
+noted_by_lem t None i None cs = cs
+noted_by_lem t (Some e) i r cs = cs
 
 -- "bits left div the set's declared bits"
 abbrev pub fitting : Table → ℕ → ℕ → ℕ

@@ -5,7 +5,6 @@ ghost use Rattle.reading.specs.Groups.{noted as noted_of, noted_by_lem, fitting 
 
 use bits::BitPos;
 use fields::DecodeRefusal;
-use walking::Element;
 
 // The counters once field i has been read as r.
 fn noted(words: &[u64], i: usize, r: u64, cs: [u64; tables::SET_MAX]) -> [u64; tables::SET_MAX]
@@ -23,7 +22,7 @@ fn noted(words: &[u64], i: usize, r: u64, cs: [u64; tables::SET_MAX]) -> [u64; t
 // The counters once a field has been read: one in a set counts nothing, nor does one without a raw.
 pub fn noted_by(
     words: &[u64],
-    e: Element,
+    e: Option<usize>,
     i: usize,
     raw: Option<u64>,
     cs: [u64; tables::SET_MAX],
@@ -31,8 +30,8 @@ pub fn noted_by(
     ensures { result ≡ noted_by_lem (table_of words.now) e i raw cs }
 {
     match e {
-        Element::At(_) => cs,
-        Element::Outside => match raw {
+        Some(_) => cs,
+        None => match raw {
             Some(r) => noted(words, i, r, cs),
             None => cs,
         },

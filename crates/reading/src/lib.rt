@@ -16,7 +16,7 @@
 use bits::BitPos;
 use descriptor::{Availability, PgnValue};
 use fields::DecodeRefusal;
-use walking::{Element, Spot};
+use walking::Spot;
 
 mod decoding;
 mod filling;
@@ -32,11 +32,12 @@ pub use crate::turns::{came_to, next_field, start};
 // proofs/Answered.antt shows that. It is here for the lengths of arrays.
 pub const ROOM_ENOUGH: usize = tables::PAYLOAD_MAX * 8 + 1;
 
-// A field met, skipped ones too: `bits` bits from `start` on.
+// A field met, skipped ones too: `bits` bits from `start` on. `element` says in which element of a set,
+// where it stands in one.
 #[derive(Clone, Copy)]
 pub struct Span {
     pub field: usize,
-    pub element: Element,
+    pub element: Option<usize>,
     pub start: BitPos,
     pub bits: BitPos,
 }
@@ -45,7 +46,7 @@ pub struct Span {
 #[derive(Clone, Copy)]
 pub struct Reading {
     pub field: usize,
-    pub element: Element,
+    pub element: Option<usize>,
     pub start: BitPos,
     pub bits: BitPos,
     pub raw: Option<u64>,

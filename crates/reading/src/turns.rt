@@ -11,7 +11,7 @@ use crate::{Answer, Came, Decoded, Next, Progress, Reading, Span, Walk, groups};
 use bits::{BitPos, Cursor};
 use descriptor::PgnValue;
 use fields::{DecodeRefusal, FieldRead, field_availability, read_field_raw_and_value};
-use walking::{Element, Look, Spot};
+use walking::{Look, Spot};
 
 // A walk before its first field.
 pub fn start() -> Walk
@@ -63,7 +63,7 @@ fn see(
     s: &[u8],
     room: usize,
     i: usize,
-    e: Element,
+    e: Option<usize>,
     last: bool,
     p: Progress,
     to: Spot,

@@ -7,17 +7,15 @@ use native.Mathlib.Omega.{arith}
 use lib.Dec.{eqb, ltb}
 use lib.ListN.{length-append}
 use borrow.Author.Tests.{lt-ltb, le-ltb}
-use Rattle.std.specs.Prelude.{None, Ok}
+use Rattle.std.specs.Prelude.{None, Ok, Some}
 use Rattle.tables.specs.Table.{Table}
 use Rattle.tables.specs.Check.{check_of}
 use Rattle.tables.specs.declared.RepeatingFieldSet.{RepeatingFieldSet}
-use Rattle.walking.specs.declared.Element.{Element}
-use Rattle.walking.specs.declared.Element.TheVariants.{Outside, At}
 use Rattle.walking.specs.declared.Place.{Place}
 use Rattle.walking.specs.declared.Place.TheVariants.{Inside, Plain}
 use Rattle.walking.specs.declared.Spot.{Spot}
 use Rattle.walking.specs.declared.Spot.TheVariants.{Field, Within}
-use Rattle.walking.specs.Walk.{One, hit, place_of}
+use Rattle.walking.specs.Walk.{One, hit, place_of, Element}
 use Rattle.walking.specs.Turns.{Turn, moved, met, either, seen, turn_by, turn_within, turn}
 use Rattle.fields.specs.declared.DecodeRefusal.{DecodeRefusal}
 use Rattle.fields.specs.Payload.{Payload}
@@ -64,7 +62,7 @@ module _ (t : Table) (p : Payload) (room : ℕ) where
   unfolding seen
   seen-hit q s z v o h = ap (seen q s) h
 
-  turn-plain : (i : ℕ) (s z : Progress) (v : Span) → i < t.count → place_of t i ≡ Plain → ((last : Bool) → one i Outside last s ≡ hit v z) → turn_of t p room (Field i) s ≡ met v (Field (i + 1)) z
+  turn-plain : (i : ℕ) (s z : Progress) (v : Span) → i < t.count → place_of t i ≡ Plain → ((last : Bool) → one i None last s ≡ hit v z) → turn_of t p room (Field i) s ≡ met v (Field (i + 1)) z
   unfolding turn_by
   turn-plain i s z v l h o = at_place i Plain s l h ∙ seen-hit (Field (i + 1)) s z v _ (o (eqb (i + 1) t.count))
 
@@ -72,7 +70,7 @@ module _ (t : Table) (p : Payload) (room : ℕ) where
   unfolding turn_by
   turn_inside i s l h = at_place i Inside s l h
 
-  turn-element : (k n e j : ℕ) (s z : Progress) (v : Span) → e < n → j < (t.set k).size → one ((t.set k).start + j) (At e) false s ≡ hit v z
+  turn-element : (k n e j : ℕ) (s z : Progress) (v : Span) → e < n → j < (t.set k).size → one ((t.set k).start + j) (Some e) false s ≡ hit v z
       → turn_of t p room (Within k n e j) s ≡ met v (Within k n e (j + 1)) z
   unfolding turn turn_within
   turn-element k n e j s z v l m o =
@@ -113,21 +111,21 @@ module _ (t : Table) (p : Payload) (room : ℕ) where
   hits-from e i s (more rs k x v y h o) = let l = hits-from e i s h in omega (arith, l)
 
   pub led-plain : (i l : ℕ) (s : Progress) → l ≤ t.count → ((j : ℕ) → i ≤ j → j < l → place_of t j ≡ Plain) → {rs : List Reading} {k : ℕ} {z : Progress} → k ≤ l
-      → Hits t p room Outside i s rs k z → Led t p room (walk_at_lem (Field i) s) rs (walk_at_lem (Field k) z)
+      → Hits t p room None i s rs k z → Led t p room (walk_at_lem (Field i) s) rs (walk_at_lem (Field k) z)
   led-plain i l s b a m none = here
   led-plain i l s b a m (more rs k x v z h o) =
-      let f = hits-from Outside i s h in
+      let f = hits-from None i s h in
       led-then (walk_at_lem (Field i) s) (walk_at_lem (Field k) x) rs
       (led-plain i l s b a (omega (arith, m)) h)
       (led-met (Field k) (Field (k + 1)) x z v (turn-plain k x z v (omega (arith, m, b)) (a k f (omega (arith, m))) o))
 
   pub led-within : (k n e j : ℕ) (s : Progress) → e < n → {rs : List Reading} {m : ℕ} {z : Progress} → m ≤ (t.set k).start + (t.set k).size
-      → Hits t p room (At e) ((t.set k).start + j) s rs m z → Led t p room (walk_at_lem (Within k n e j) s) rs (walk_at_lem (Within k n e (m - (t.set k).start)) z)
+      → Hits t p room (Some e) ((t.set k).start + j) s rs m z → Led t p room (walk_at_lem (Within k n e j) s) rs (walk_at_lem (Within k n e (m - (t.set k).start)) z)
   led-within k n e j s l b none =
       let q : j ≡ (t.set k).start + j - (t.set k).start = omega arith in
       subst (λ (o : ℕ). Led t p room (walk_at_lem (Within k n e j) s) [] (walk_at_lem (Within k n e o) s)) q here
   led-within k n e j s l b (more rs m x v z h o) =
-      let f = hits-from (At e) ((t.set k).start + j) s h in
+      let f = hits-from (Some e) ((t.set k).start + j) s h in
       let d : ℕ = m - (t.set k).start in
       let q : d + 1 ≡ m + 1 - (t.set k).start = omega (arith, f) in
       let g : m ≡ (t.set k).start + d = omega (arith, f) in
@@ -135,7 +133,7 @@ module _ (t : Table) (p : Payload) (room : ℕ) where
       (led-within k n e j s l (omega (arith, b)) h)
       (subst (λ (c : ℕ). Led t p room (walk_at_lem (Within k n e d) x) (readings t p (v ∷ [])) (walk_at_lem (Within k n e c) z)) q
       (led-met (Within k n e d) (Within k n e (d + 1)) x z v
-      (turn-element k n e d x z v l (omega (arith, b, g, f)) (ap (λ (i : ℕ). one i (At e) false x) (sym g) ∙ o false))))
+      (turn-element k n e d x z v l (omega (arith, b, g, f)) (ap (λ (i : ℕ). one i (Some e) false x) (sym g) ∙ o false))))
 
   -- later fields of sets
   pub led-inside : (i r : ℕ) (s : Progress) → ((j : ℕ) → i ≤ j → j < r → (j < t.count) × (place_of t j ≡ Inside)) → (n : ℕ) → i + n ≤ r
@@ -175,14 +173,14 @@ module _ (t : Table) (p : Payload) (room : ℕ) where
       leads-none (walk_at_lem (Field i) s) out (walk_at_lem (Field r) s)
       (subst (λ (k : ℕ). Led t p room (walk_at_lem (Field i) s) [] (walk_at_lem (Field k) s)) e (led-inside i r s h.all (r - i) n)) refl
 
-  pub leads-plain : (i l : ℕ) (s : Progress) (out : List ℕ) (k : ℕ) (z : Progress) (out' : List ℕ) → Plains t i l → Ran t p room Outside i l s out k z out'
+  pub leads-plain : (i l : ℕ) (s : Progress) (out : List ℕ) (k : ℕ) (z : Progress) (out' : List ℕ) → Plains t i l → Ran t p room None i l s out k z out'
       → Leads t p room (walk_at_lem (Field i) s) out (walk_at_lem (Field k) z) out'
   leads-plain i l s out k z out' h r = record { readings = r.readings; led = led-plain i l s h.below h.all r.high r.hits; made = r.made; puts = r.puts }
 
   pub leads-within : (k e j at made : ℕ) (out : List ℕ) (g : RepeatingFieldSet) (r : Stretch) (out' : List ℕ) → g ≡ t.set k
-      → Runs t p room (At e) (g.start + j) (g.start + g.size) at made out r out' → LeadsIn t p room k e j at made out (stretch_at (r.field - g.start) r.at r.made None) out'
+      → Runs t p room (Some e) (g.start + j) (g.start + g.size) at made out r out' → LeadsIn t p room k e j at made out (stretch_at (r.field - g.start) r.at r.made None) out'
   leads-within k e j at made out g r out' h =
-      subst (λ (x : RepeatingFieldSet). Runs t p room (At e) (x.start + j) (x.start + x.size) at made out r out' → LeadsIn t p room k e j at made out (stretch_at (r.field - x.start) r.at r.made None) out') (sym h)
+      subst (λ (x : RepeatingFieldSet). Runs t p room (Some e) (x.start + j) (x.start + x.size) at made out r out' → LeadsIn t p room k e j at made out (stretch_at (r.field - x.start) r.at r.made None) out') (sym h)
       (λ y. record { all = λ n cs l. let q = y.all cs in record { readings = q.readings; led = led-within k n e j (progress_at at made cs) l q.high q.hits; made = q.made; puts = q.puts } })
 
   pub leads-still : (k e j at made : ℕ) (out : List ℕ) → LeadsIn t p room k e j at made out (stretch_at j at made None) out

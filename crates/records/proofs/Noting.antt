@@ -7,13 +7,12 @@ use Prim.Native.Nat.{ℕ, zero, suc, ◌+◌, ◌-◌, ◌≤◌, ◌<◌, min}
 use native.Mathlib.Omega.{arith}
 use lib.ListN.{length-append, set}
 use borrow.Author.Tests.{ne_eqb}
+use Rattle.walking.specs.Walk.{Element}
 use Rattle.std.specs.Prelude.{Option, Some, None}
 use Rattle.bits.specs.Bits.{pick}
 use Rattle.bits.proofs.Written.{below}
 use Rattle.tables.specs.Table.{Table}
 use Rattle.tables.specs.Check.{set_max}
-use Rattle.walking.specs.declared.Element.{Element}
-use Rattle.walking.specs.declared.Element.TheVariants.{Outside, At}
 use Rattle.fields.specs.Payload.{Payload}
 use Rattle.reading.specs.declared.Reading.{Reading}
 use Rattle.reading.specs.declared.Progress.{Progress}
@@ -34,11 +33,11 @@ module _ (t : Table) (i r : ℕ) (cs : List ℕ) where
 
 -- nothing was read
 pub absent : (t : Table) (e : Element) (i : ℕ) (cs : List ℕ) → noted_by_lem t e i None cs ≡ cs
-absent t Outside i cs = refl
-absent t (At e) i cs = refl
+absent t None i cs = refl
+absent t (Some e) i cs = refl
 
 -- an element's fields
-pub quiet-in : (t : Table) (e i r : ℕ) → Quiet t (At e) i r
+pub quiet-in : (t : Table) (e i r : ℕ) → Quiet t (Some e) i r
 quiet-in t e i r = record { all = λ j l u x cs. refl }
 
 module _ (t : Table) (i end : ℕ) where
@@ -63,10 +62,10 @@ module _ (t : Table) (i end : ℕ) where
       }
 
   -- all of them
-  pub quiets-all : {m r : ℕ} → Quiets m r → m ≡ t.sets → Quiet t Outside i r
+  pub quiets-all : {m r : ℕ} → Quiets m r → m ≡ t.sets → Quiet t None i r
   quiets-all {m} {r} s e = record { all = λ j a h x cs. by j a h x cs }
     where
-      by : (j : ℕ) → i ≤ j → j + 1 < r → (x : Option ℕ) (cs : List ℕ) → noted_by_lem t Outside j x cs ≡ cs
+      by : (j : ℕ) → i ≤ j → j + 1 < r → (x : Option ℕ) (cs : List ℕ) → noted_by_lem t None j x cs ≡ cs
       by j a h None cs = refl
       by j a h (Some y) cs = unnoted t j y cs (min t.sets set_max) (λ k l. s.sets k (omega (arith, e, l)) j a h)
 

@@ -23,8 +23,7 @@ use Rattle.numbers.specs.Special.{number_availability_of}
 use Rattle.numbers.specs.Words.{simple_words_of}
 use Rattle.numbers.proofs.Simple.{simple-words}
 use Rattle.tables.specs.Table.{Table, Simple}
-use Rattle.walking.specs.declared.Element.{Element}
-use Rattle.walking.specs.Walk.{hit, check}
+use Rattle.walking.specs.Walk.{hit, check, Element}
 use Rattle.fields.specs.declared.DecodeRefusal.{DecodeRefusal}
 use Rattle.fields.specs.declared.DecodeRefusal.TheVariants.{NoRoom}
 use Rattle.fields.specs.declared.Shape.{Shape}

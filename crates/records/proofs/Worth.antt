@@ -6,6 +6,7 @@ use native.Mathlib.Omega.{arith}
 use lib.Dec.{lit≤}
 use denote.Enum.Declared.{tag_of}
 use types.Run.{OneOf, miss}
+use Rattle.walking.specs.Walk.{Element}
 use Rattle.std.specs.Prelude.{Option, Some, None}
 use Rattle.descriptor.specs.contracts.PgnValue.{the_type}
 use Rattle.descriptor.specs.declared.Availability.{Availability}
@@ -19,7 +20,6 @@ use Rattle.numbers.proofs.Scaled.{scaled_small}
 use Rattle.numbers.specs.Special.{number_availability_of}
 use Rattle.numbers.specs.Words.{code_of, word_of_lem, silence_of_lem, words_of, number_words_of}
 use Rattle.numbers.specs.declared.NumberWords.{NumberWords}
-use Rattle.walking.specs.declared.Element.{Element}
 use Rattle.records.specs.Layout.{raw_mark_lem, encoding_mark_lem, no_bytes_lem, bytes_in_lem, element_word_lem, value_word_lem, record_of_lem, number_reading, number_record}
 
 pub code-small : (v : PgnValue) → code_of v ≤ 11

@@ -1,5 +1,6 @@
 -- How readings lie in bytes: a count, then a record for each reading. It is no part of document 01, which leaves the boundary's layout open:
 -- include/samopute.h says the same in C.
+use Rattle.walking.specs.Walk.{Element}
 use Rattle.std.specs.Prelude.{ℕ, zero, suc, ◌+◌, ◌-◌, ◌*◌, ◌/◌, ◌%◌, ◌^◌, List, [], ◌∷◌, ◌++◌, ltb, length, drop, Option, Some, None}
 use Rattle.bits.specs.Bits.{pick}
 use Rattle.bits.specs.Calls.{bits, bytes}
@@ -12,8 +13,6 @@ use Rattle.numbers.specs.Scaling.{scale_of}
 use Rattle.numbers.specs.Special.{number_availability_of}
 use Rattle.numbers.specs.declared.NumberWords.{NumberWords}
 use Rattle.numbers.specs.Words.{code_of, word_of_lem, silence_of_lem}
-use Rattle.walking.specs.declared.Element.{Element}
-use Rattle.walking.specs.declared.Element.TheVariants as element
 use Rattle.reading.specs.declared.Reading.{Reading}
 
 -- a number in n bytes, the lowest first
@@ -30,8 +29,8 @@ laid (w ∷ ws) = bytes_of 8 w ++ laid ws
 
 -- which element, all ones where the field is in no set
 abbrev pub element_word_lem : Element → ℕ
-element_word_lem element.Outside = 2 ^ 64 - 1
-element_word_lem (element.At e) = e
+element_word_lem None = 2 ^ 64 - 1
+element_word_lem (Some e) = e
 
 -- the raw, 0 where there is none
 abbrev pub raw_word_lem : Option ℕ → ℕ

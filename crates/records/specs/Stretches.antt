@@ -4,11 +4,10 @@ use Rattle.std.specs.Prelude.{◌≡◌, ℕ, ◌+◌, ◌-◌, ◌*◌, ◌≤�
 use Rattle.bits.specs.Bits.{pick}
 use Rattle.tables.specs.Table.{Table}
 use Rattle.tables.specs.Rules.{in_set}
-use Rattle.walking.specs.declared.Element.{Element}
 use Rattle.walking.specs.declared.Place.{Place}
 use Rattle.walking.specs.declared.Place.TheVariants.{Starts, Inside, Plain}
 use Rattle.walking.specs.declared.Spot.TheVariants.{Within}
-use Rattle.walking.specs.Walk.{hit, place_of}
+use Rattle.walking.specs.Walk.{hit, place_of, Element}
 use Rattle.fields.specs.Payload.{Payload}
 use Rattle.reading.specs.declared.Span.{Span}
 use Rattle.reading.specs.declared.Reading.{Reading}

@@ -8,7 +8,6 @@ use bits::ByteCount;
 use descriptor::{Availability, FieldDescriptor, PgnBytes, PgnValue};
 use numbers::NumberWords;
 use reading::Reading;
-use walking::Element;
 
 // Puts eight words at a place.
 fn put_record(
@@ -44,12 +43,12 @@ fn put_record(
 }
 
 // Which element, all ones in no set.
-pub fn element_word(e: Element) -> u64
+pub fn element_word(e: Option<usize>) -> u64
     ensures { result ≡ element_word_lem e }
 {
     match e {
-        Element::Outside => 0xffff_ffff_ffff_ffff,
-        Element::At(n) => n as u64,
+        None => 0xffff_ffff_ffff_ffff,
+        Some(n) => n as u64,
     }
 }
 
@@ -95,7 +94,7 @@ pub(crate) fn put_words(
     out: &mut [u8],
     at: usize,
     i: usize,
-    e: Element,
+    e: Option<usize>,
     start: usize,
     width: u32,
     raw: u64,
@@ -129,7 +128,7 @@ pub(crate) fn put_number(
     out: &mut [u8],
     at: usize,
     i: usize,
-    e: Element,
+    e: Option<usize>,
     start: usize,
     f: FieldDescriptor,
     raw: u64,

@@ -9,7 +9,6 @@ ghost use Rattle.records.specs.Stretches.{Roomy, QuickSays, Quiet, Runs, stretch
 use crate::{Quick, Stretch, readings};
 use bits::{BitPos, Cursor, Moved, ReadU64};
 use descriptor::FieldDescriptor;
-use walking::Element;
 
 // Field i, a number at bit `at`.
 fn number(
@@ -17,7 +16,7 @@ fn number(
     s: &[u8],
     room: usize,
     i: usize,
-    e: Element,
+    e: Option<usize>,
     f: FieldDescriptor,
     at: usize,
     made: usize,
@@ -50,7 +49,7 @@ fn simple(
     s: &[u8],
     room: usize,
     i: usize,
-    e: Element,
+    e: Option<usize>,
     width: u32,
     at: usize,
     made: usize,
@@ -83,7 +82,7 @@ fn gap(
     s: &[u8],
     room: usize,
     i: usize,
-    e: Element,
+    e: Option<usize>,
     f: FieldDescriptor,
     at: usize,
     made: usize,
@@ -109,7 +108,7 @@ fn quick(
     s: &[u8],
     room: usize,
     i: usize,
-    e: Element,
+    e: Option<usize>,
     at: usize,
     made: usize,
     out: &mut [u8],
@@ -139,7 +138,7 @@ pub(crate) fn run(
     room: usize,
     from: usize,
     end: usize,
-    e: Element,
+    e: Option<usize>,
     bit: usize,
     count: usize,
     out: &mut [u8],

@@ -1,7 +1,6 @@
 // Which fields can be gone through in one stretch.
-ghost use Rattle.std.specs.Prelude.{◌≡◌, ◌≤◌, ◌<◌};
+ghost use Rattle.std.specs.Prelude.{◌≡◌, ◌≤◌, ◌<◌, None};
 ghost use Rattle.tables.specs.Table.{table_of};
-ghost use Rattle.walking.specs.declared.Element.TheVariants as element;
 ghost use Rattle.walking.specs.Walk.{place_of};
 ghost use Rattle.records.specs.Stretches.{Insides, Plains, Clear, UpTo, Quiet, is_inside_lem};
 
@@ -67,7 +66,7 @@ fn clear_of(words: &[u64], k: usize, i: usize, end: usize) -> usize
 // A field up to which, from field i on and no further than `end`, none but the last is a counter.
 pub(crate) fn quiet_until(words: &[u64], i: usize, end: usize) -> usize
     requires { i < end }
-    ensures { (i < result) × ((result ≤ end) × Quiet (table_of words.now) element.Outside i result) }
+    ensures { (i < result) × ((result ≤ end) × Quiet (table_of words.now) None i result) }
 {
     let m = tables::set_count(words);
     let mut to = end;

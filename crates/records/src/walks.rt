@@ -12,7 +12,7 @@ ghost use Rattle.records.specs.Clauses.{Turns, Stores};
 use crate::{Stretch, readings, runs, stretches};
 use bits::BitPos;
 use reading::{Answer, Came, Decoded, Next, Progress, Walk};
-use walking::{Element, Spot};
+use walking::Spot;
 
 // Element e of set k from offset j on, as far as it is quick. The stretch's field is an offset.
 fn element(
@@ -39,7 +39,7 @@ fn element(
             room,
             start + j,
             start + size,
-            Element::At(e),
+            Some(e),
             at,
             made,
             out,
@@ -140,12 +140,12 @@ fn plain(
     let mut counters = p.counters;
     while i < end {
         let to = stretches::quiet_until(words, i, end);
-        let ran = runs::run(words, s, room, i, to, Element::Outside, at, made, out);
+        let ran = runs::run(words, s, room, i, to, None, at, made, out);
         i = ran.field;
         at = ran.at;
         made = ran.made;
         let last = ran.last;
-        let noted = reading::noted_by(words, Element::Outside, to - 1, last, counters);
+        let noted = reading::noted_by(words, None, to - 1, last, counters);
         counters = noted;
         if i < to {
             return walk_at(Spot::Field(i), at, made, counters);

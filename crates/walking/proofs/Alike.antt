@@ -4,13 +4,12 @@ use mathlib.Core.Path.{◌≡◌, refl}
 use Prim.Native.Nat.{ℕ, zero, suc, ◌+◌}
 use mathlib.Core.Bool.{Bool, true, false}
 use mathlib.Core.List.{List}
+use Rattle.std.specs.Prelude.{Some, None}
 use Rattle.tables.specs.Table.{Table}
-use Rattle.walking.specs.declared.Element.{Element}
-use Rattle.walking.specs.declared.Element.TheVariants.{Outside, At}
 use Rattle.walking.specs.declared.Place.{Place}
 use Rattle.walking.specs.declared.Place.TheVariants.{Starts, Inside, Plain}
 use Rattle.walking.specs.Runs.{Run, ran, stopped, guard, after, and_then, times}
-use Rattle.walking.specs.Walk.{One, hit, miss, lift, place_of, element_at, group_at, field_by_lem, field_at, walk_from}
+use Rattle.walking.specs.Walk.{One, hit, miss, lift, place_of, element_at, group_at, field_by_lem, field_at, walk_from, Element}
 use Rattle.walking.proofs.Visits.{All, all_left, all_right}
 
 module _ {W S F : Type 0} (H : W → Type 0) where
@@ -48,13 +47,13 @@ module _ {W S F : Type 0} (H : W → Type 0) where
       (same : (i : ℕ) (e : Element) (last : Bool) (s : S) (v : W) (z : S) → one i e last s ≡ hit v z → H v → one' i e last s ≡ hit v z) where
     alike-element : (k e : ℕ) (s : S) → Alike (element_at t one count over k e s) (element_at t one' count over k e s)
     unfolding element_at
-    alike-element k e s = alike-times _ _ (λ j z. alike-lift _ _ (same ((t.set k).start + j) (At e) false z)) (t.set k).size 0 s
+    alike-element k e s = alike-times _ _ (λ j z. alike-lift _ _ (same ((t.set k).start + j) (Some e) false z)) (t.set k).size 0 s
 
     alike-by : (i : ℕ) (p : Place) (s : S) → Alike (field_by_lem t one count over i p s) (field_by_lem t one' count over i p s)
     unfolding field_by_lem group_at
     alike-by i (Starts k) s = alike-guard _ _ _ _ (alike-times _ _ (alike-element k) (count k s) 0 s)
     alike-by i Inside s = λ g. refl
-    alike-by i Plain s = alike-lift _ _ (same i Outside _ s)
+    alike-by i Plain s = alike-lift _ _ (same i None _ s)
 
     alike-walk : (s : S) → Alike (walk_from t one count over s) (walk_from t one' count over s)
     unfolding walk_from field_at

@@ -9,21 +9,20 @@ use mathlib.Core.Bool.{Bool, true, false}
 use mathlib.Core.List.{List, [], ◌∷◌, ◌++◌}
 use lib.Dec.{eqb}
 use borrow.Author.Tests.{ne_eqb}
+use Rattle.std.specs.Prelude.{Some, None}
 use Rattle.tables.specs.Table.{Table}
-use Rattle.walking.specs.declared.Element.{Element}
-use Rattle.walking.specs.declared.Element.TheVariants.{Outside, At}
 use Rattle.walking.specs.declared.Place.{Place}
 use Rattle.walking.specs.declared.Place.TheVariants.{Starts, Inside, Plain}
 use Rattle.walking.specs.Runs.{Run, ran, stopped, guard, after, and_then, times}
-use Rattle.walking.specs.Walk.{One, hit, miss, lift, place_of, element_at, group_at, field_by_lem, field_at, walk_from}
+use Rattle.walking.specs.Walk.{One, hit, miss, lift, place_of, element_at, group_at, field_by_lem, field_at, walk_from, Element}
 use Rattle.walking.proofs.Runs.{times-last}
 use Rattle.walking.proofs.Visits.{All, all_append, Ending, ending-all, ending-append}
 use Rattle.walking.proofs.Machine.{starts-one}
 
 -- where a walk looks on its way to field n: field i, of element e, as `one i e last`
 pub data Looks (t : Table) (n : ℕ) : ℕ → Element → Bool → Type 0 where
-  plain : {i : ℕ} → i < n → Looks t n i Outside (eqb (i + 1) t.count)
-  member : (k e j : ℕ) → k < t.sets → j < (t.set k).size → Looks t n ((t.set k).start + j) (At e) false
+  plain : {i : ℕ} → i < n → Looks t n i None (eqb (i + 1) t.count)
+  member : (k e j : ℕ) → k < t.sets → j < (t.set k).size → Looks t n ((t.set k).start + j) (Some e) false
 
 -- R: what was met from a state to another. Stop: what a state says of the fault met there
 pub data Lawful {W S F : Type 0} (R : S → List W → S → Type 0) (Stop : S → F → Type 0) (s : S) : Run W S F → Type 0 where
@@ -84,7 +83,7 @@ module _ (t : Table) {W S F : Type 0} (one : ℕ → Element → Bool → S → 
 
     lawful-element : (k : ℕ) → k < t.sets → (e : ℕ) (s : S) → Keeps s (element_at t one count over k e s)
     unfolding element_at
-    lawful-element k l e s = lawful-times _ (t.set k).size 0 (λ j m z. lawful-one ((t.set k).start + j) (At e) false (member k e j l (omega arith)) z) s
+    lawful-element k l e s = lawful-times _ (t.set k).size 0 (λ j m z. lawful-one ((t.set k).start + j) (Some e) false (member k e j l (omega arith)) z) s
 
     lawful-guard : (b : Bool) (f : F) (s : S) (w : Run W S F) → Stop s f → Keeps s w → Keeps s (guard b f w)
     unfolding guard
@@ -99,7 +98,7 @@ module _ (t : Table) {W S F : Type 0} (one : ℕ → Element → Bool → S → 
     unfolding field_by_lem
     lawful-by i (Starts k) q l s = lawful-group k (starts-one t i k q) s
     lawful-by i Inside q l s = runs (none s)
-    lawful-by i Plain q l s = lawful-one i Outside _ (plain l) s
+    lawful-by i Plain q l s = lawful-one i None _ (plain l) s
 
     -- .. holds of the walk up to field n
     pub lawful-fields : (s : S) → Keeps s (times n 0 (field_at t one count over) s)

@@ -5,18 +5,17 @@ use Prim.Native.Nat.{ℕ, ◌+◌, ◌≤◌, ◌<◌}
 use mathlib.Core.Bool.{Bool, true, false}
 use lib.Dec.{ltb}
 use borrow.Author.Tests.{lt-ltb, le-ltb}
+use Rattle.std.specs.Prelude.{Some}
 use Rattle.bits.specs.Bits.{pick}
 use Rattle.tables.specs.Table.{Table}
 use Rattle.tables.specs.declared.RepeatingFieldSet.{RepeatingFieldSet}
-use Rattle.walking.specs.declared.Element.{Element}
-use Rattle.walking.specs.declared.Element.TheVariants.{At}
 use Rattle.walking.specs.declared.Place.{Place}
 use Rattle.walking.specs.declared.Place.TheVariants.{Starts, Inside, Plain}
 use Rattle.walking.specs.declared.Spot.{Spot}
 use Rattle.walking.specs.declared.Spot.TheVariants.{Field, Within}
 use Rattle.walking.specs.declared.Look.{Look}
 use Rattle.walking.specs.declared.Look.TheVariants.{End, Pass, Enter, Meet}
-use Rattle.walking.specs.Walk.{One, place_of}
+use Rattle.walking.specs.Walk.{One, place_of, Element}
 use Rattle.walking.specs.Turns.{Turn, moved, ended, either, seen, turn, turn_by, turn_within}
 use Rattle.walking.specs.Looks.{look_by_lem, look_within_lem, look_of, turn_at}
 
@@ -30,7 +29,7 @@ module _ (t : Table) where
   field-ends i l = rw (le-ltb _ _ l)
 
   -- g is set k
-  pub within-meets : (k n e j : ℕ) (g : RepeatingFieldSet) → g ≡ t.set k → e < n → j < g.size → Meet (g.start + j) (At e) false (Within k n e (j + 1)) ≡ look_within_lem t k n e j
+  pub within-meets : (k n e j : ℕ) (g : RepeatingFieldSet) → g ≡ t.set k → e < n → j < g.size → Meet (g.start + j) (Some e) false (Within k n e (j + 1)) ≡ look_within_lem t k n e j
   within-meets k n e j g q l m = rw (← q) (rw (lt-ltb _ _ l, lt-ltb _ _ m) refl)
 
   pub within-next : (k n e j : ℕ) (g : RepeatingFieldSet) → g ≡ t.set k → e < n → g.size ≤ j → Pass (Within k n (e + 1) 0) ≡ look_within_lem t k n e j

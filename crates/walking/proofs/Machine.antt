@@ -6,17 +6,16 @@ use mathlib.Core.Bool.{Bool, true, false}
 use mathlib.Core.List.{List, [], ◌∷◌, ◌++◌}
 use lib.Dec.{eqb, ltb}
 use borrow.Author.Tests.{ltb-true, ltb-false, leb-true, eqb-true}
+use Rattle.std.specs.Prelude.{Some, None}
 use Rattle.bits.specs.Bits.{pick}
 use Rattle.tables.specs.Table.{Table}
 use Rattle.tables.specs.Rules.{in_sets_lem}
-use Rattle.walking.specs.declared.Element.{Element}
-use Rattle.walking.specs.declared.Element.TheVariants.{Outside, At}
 use Rattle.walking.specs.declared.Place.{Place}
 use Rattle.walking.specs.declared.Place.TheVariants.{Starts, Inside, Plain}
 use Rattle.walking.specs.declared.Spot.{Spot}
 use Rattle.walking.specs.declared.Spot.TheVariants.{Field, Within}
 use Rattle.walking.specs.Runs.{Run, ran, stopped, guard, after, and_then, times}
-use Rattle.walking.specs.Walk.{One, hit, miss, lift, place_from, place_of, element_at, group_at, field_by_lem, field_at, walk_from}
+use Rattle.walking.specs.Walk.{One, hit, miss, lift, place_from, place_of, element_at, group_at, field_by_lem, field_at, walk_from, Element}
 use Rattle.walking.specs.Turns.{Turn, moved, met, ended, broke, either, seen, turn_by, turn_within, turn}
 use Rattle.walking.proofs.Runs.{after-after, after-nil, then-then, then-ran, times_more, times_none, times-all}
 
@@ -64,7 +63,7 @@ module _ (t : Table) {W S F : Type 0} (one : ℕ → Element → Bool → S → 
   elements_from k n e s = times (n - e) e (element_at t one count over k) s
 
   unfoldable pub members_from : ℕ → ℕ → ℕ → S → Run W S F
-  members_from k e j s = times ((t.set k).size - j) j (λ j z. lift (one ((t.set k).start + j) (At e) false z)) s
+  members_from k e j s = times ((t.set k).size - j) j (λ j z. lift (one ((t.set k).start + j) (Some e) false z)) s
 
   unfoldable pub rest_within : Bool → ℕ → ℕ → ℕ → ℕ → S → Run W S F
   rest_within true k n e j s = and_then (and_then (members_from k e j s) (elements_from k n (suc e))) (fields_from ((t.set k).start + 1))
@@ -144,7 +143,7 @@ module _ (t : Table) {W S F : Type 0} (one : ℕ → Element → Bool → S → 
 
   -- at a field of an element: that field, and then the rest
   one-member : (k n e j : ℕ) (s : S) → ltb e n ≡ true → ltb j (t.set k).size ≡ true
-      → rest (Within k n e j) s ≡ follow (seen (Within k n e (j + 1)) s (one ((t.set k).start + j) (At e) false s))
+      → rest (Within k n e j) s ≡ follow (seen (Within k n e (j + 1)) s (one ((t.set k).start + j) (Some e) false s))
   unfolding members_from
   one-member k n e j s q l =
       within-true k n e j s q
@@ -272,13 +271,13 @@ module _ (t : Table) {W S F : Type 0} (one : ℕ → Element → Bool → S → 
     unfolding turn_by
     meets-by i (Starts k) s = meets-either s _ _ _ meets-moved meets-broke
     meets-by i Inside s = meets-moved
-    meets-by i Plain s = meets-seen (Field (i + 1)) s i Outside _ _ refl
+    meets-by i Plain s = meets-seen (Field (i + 1)) s i None _ _ refl
 
     pub meets : (p : Spot) (s : S) → Meets s (turn t one count over p s)
     unfolding turn turn_within
     meets (Field i) s = meets-either s _ _ _ (meets-by i (place_of t i) s) meets-ended
     meets (Within k n e j) s =
-        meets-either s _ _ _ (meets-either s _ _ _ (meets-seen (Within k n e (j + 1)) s ((t.set k).start + j) (At e) false _ refl) meets-moved) meets-moved
+        meets-either s _ _ _ (meets-either s _ _ _ (meets-seen (Within k n e (j + 1)) s ((t.set k).start + j) (Some e) false _ refl) meets-moved) meets-moved
 
     pub met-law : (s : S) {v : W} {p : Spot} {z : S} → Meets s (met v p z) → R s v z
     met-law s (meets-met h) = h

@@ -6,13 +6,12 @@ use native.Mathlib.Omega.{arith}
 use mathlib.Core.Bool.{Bool, true, false}
 use mathlib.Core.List.{List, [], ◌∷◌, ◌++◌, map, append-nil, append_assoc}
 use lib.Dec.{leb}
+use Rattle.std.specs.Prelude.{Some, None}
 use Rattle.tables.specs.Table.{Table}
-use Rattle.walking.specs.declared.Element.{Element}
-use Rattle.walking.specs.declared.Element.TheVariants.{Outside, At}
 use Rattle.walking.specs.declared.Place.{Place}
 use Rattle.walking.specs.declared.Place.TheVariants.{Starts, Inside, Plain}
 use Rattle.walking.specs.Runs.{Run, ran, stopped, guard, after, and_then, times}
-use Rattle.walking.specs.Walk.{One, hit, miss, lift, place_of, element_at, group_at, field_by_lem, field_at, walk_from}
+use Rattle.walking.specs.Walk.{One, hit, miss, lift, place_of, element_at, group_at, field_by_lem, field_at, walk_from, Element}
 use Rattle.walking.proofs.Machine.{starts-one}
 use Rattle.walking.proofs.Lawful.{Looks, plain, member}
 
@@ -116,7 +115,7 @@ module _ {W S F W' S' F' : Type 0} (to : W → W') (Q : S → S' → List W → 
 
     pairs-element : (k : ℕ) → k < t.sets → (e : ℕ) (s : S) (s' : S') → Pairs (element_at t one count over k e s) (element_at t one' count' over' k e s') s s'
     unfolding element_at
-    pairs-element k l e s s' = pairs-times _ _ (t.set k).size 0 (λ j m z z'. pairs-one ((t.set k).start + j) (At e) false (member k e j l (omega arith)) z z') s s'
+    pairs-element k l e s s' = pairs-times _ _ (t.set k).size 0 (λ j m z z'. pairs-one ((t.set k).start + j) (Some e) false (member k e j l (omega arith)) z z') s s'
 
     group-runs : (k : ℕ) (s' : S') (n : ℕ) (r : Run W' S' F') → count' k s' ≡ n → leb n (t.set k).maximum ≡ true
         → times n 0 (element_at t one' count' over' k) s' ≡ r → group_at t one' count' over' k s' ≡ r
@@ -136,7 +135,7 @@ module _ {W S F W' S' F' : Type 0} (to : W → W') (Q : S → S' → List W → 
     unfolding field_by_lem
     pairs-by i (Starts k) e l s s' = pairs-group k (starts-one t i k e) s s'
     pairs-by i Inside e l s s' = pairs-none s s'
-    pairs-by i Plain e l s s' = pairs-one i Outside _ (plain l) s s'
+    pairs-by i Plain e l s s' = pairs-one i None _ (plain l) s s'
 
     -- a walk that ran, and the other
     pub runs-paired : (s z : S) (s' : S') (vs : List W) → walk_from t one count over s ≡ ran vs z → Q s s' vs → Follows to Q (walk_from t one' count' over' s') vs z []

@@ -1,31 +1,29 @@
 -- What a walk does next, by the table and the spot alone: for code that goes from spot to spot. That the turns of specs/Turns.antt go by it is
 -- `look-law` of proofs/Looked.antt.
-use Rattle.std.specs.Prelude.{ℕ, ◌+◌, Bool, false, eqb, leb, ltb}
+use Rattle.std.specs.Prelude.{ℕ, ◌+◌, Bool, false, eqb, leb, ltb, Some, None}
 use Rattle.bits.specs.Bits.{pick}
 use Rattle.tables.specs.Table.{Table}
-use Rattle.walking.specs.declared.Element.{Element}
-use Rattle.walking.specs.declared.Element.TheVariants.{Outside, At}
 use Rattle.walking.specs.declared.Place.{Place}
 use Rattle.walking.specs.declared.Place.TheVariants.{Starts, Inside, Plain}
 use Rattle.walking.specs.declared.Spot.{Spot}
 use Rattle.walking.specs.declared.Spot.TheVariants.{Field, Within}
 use Rattle.walking.specs.declared.Look.{Look}
 use Rattle.walking.specs.declared.Look.TheVariants.{End, Pass, Enter, Meet}
-use Rattle.walking.specs.Walk.{One, place_of}
+use Rattle.walking.specs.Walk.{One, place_of, Element}
 use Rattle.walking.specs.Turns.{Turn, moved, ended, broke, either, seen}
 
 -- at field i, by where it stands
 abbrev pub look_by_lem : Table → ℕ → Place → Look
 look_by_lem t i (Starts k) = Enter k
 look_by_lem t i Inside = Pass (Field (i + 1))
-look_by_lem t i Plain = Meet i Outside (eqb (i + 1) t.count) (Field (i + 1))
+look_by_lem t i Plain = Meet i None (eqb (i + 1) t.count) (Field (i + 1))
 
 -- in element e of the n of set k, at offset j
 abbrev pub look_within_lem : Table → ℕ → ℕ → ℕ → ℕ → Look
 look_within_lem t k n e j =
     pick (ltb e n)
     (pick (ltb j (t.set k).size)
-    (Meet ((t.set k).start + j) (At e) false (Within k n e (j + 1)))
+    (Meet ((t.set k).start + j) (Some e) false (Within k n e (j + 1)))
     (Pass (Within k n (e + 1) 0)))
     (Pass (Field ((t.set k).start + 1)))
 

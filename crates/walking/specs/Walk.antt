@@ -1,13 +1,15 @@
 -- The walk through a table, whatever is done at a field: document 01, "Reading a payload" and "Writing a payload".
-use Rattle.std.specs.Prelude.{ℕ, zero, suc, ◌+◌, Bool, true, false, [], ◌∷◌, eqb, leb}
+use Rattle.std.specs.Prelude.{ℕ, zero, suc, ◌+◌, Bool, true, false, [], ◌∷◌, eqb, leb, Option, Some, None}
 use Rattle.bits.specs.Bits.{pick}
 use Rattle.tables.specs.Table.{Table}
 use Rattle.tables.specs.Rules.{in_sets_lem}
-use Rattle.walking.specs.declared.Element.{Element}
-use Rattle.walking.specs.declared.Element.TheVariants.{Outside, At}
 use Rattle.walking.specs.declared.Place.{Place}
 use Rattle.walking.specs.declared.Place.TheVariants.{Starts, Inside, Plain}
 use Rattle.walking.specs.Runs.{Run, ran, stopped, guard, times}
+
+-- which element of its set a field stands in, if it stands in one
+abbrev pub Element : Type 0
+Element = Option ℕ
 
 -- what is done at one field: one visit, or a fault and nothing else
 pub data One (W S F : Type 0) : Type 0 where
@@ -39,7 +41,7 @@ place_of t i = place_from t i 0 t.sets
 module _ (t : Table) {W S F : Type 0} (one : ℕ → Element → Bool → S → One W S F) (count : ℕ → S → ℕ) (over : ℕ → ℕ → ℕ → F) where
   -- element e of set k: its fields in order
   unfoldable pub element_at : ℕ → ℕ → S → Run W S F
-  element_at k e s = times (t.set k).size 0 (λ j z. lift (one ((t.set k).start + j) (At e) false z)) s
+  element_at k e s = times (t.set k).size 0 (λ j z. lift (one ((t.set k).start + j) (Some e) false z)) s
 
   -- "then refusal 5 if over the maximum"; of writing, "over the maximum is 5"
   unfoldable pub group_at : ℕ → S → Run W S F
@@ -49,7 +51,7 @@ module _ (t : Table) {W S F : Type 0} (one : ℕ → Element → Bool → S → 
   unfoldable pub field_by_lem : ℕ → Place → S → Run W S F
   field_by_lem i (Starts k) s = group_at k s
   field_by_lem i Inside s = ran [] s
-  field_by_lem i Plain s = lift (one i Outside (eqb (i + 1) t.count) s)
+  field_by_lem i Plain s = lift (one i None (eqb (i + 1) t.count) s)
 
   unfoldable pub field_at : ℕ → S → Run W S F
   field_at i s = field_by_lem i (place_of t i) s

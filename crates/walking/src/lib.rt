@@ -12,13 +12,6 @@ mod places;
 pub use crate::looks::look_at;
 pub use crate::places::place_at;
 
-// Which element of its set a field stands in.
-#[derive(Clone, Copy)]
-pub enum Element {
-    Outside,
-    At(usize),
-}
-
 // Where a field stands: it starts set k, is a later field of a set, or is in none.
 #[derive(Clone, Copy)]
 pub enum Place {
@@ -48,11 +41,11 @@ pub enum Look {
     Pass(Spot),
     // It enters set k, if that has not too many elements.
     Enter(usize),
-    // It meets a field, and then goes on at `to`. `last` says that the field is the last of the table,
+    // It meets a field, of an element of a set or of none, and then goes on at `to`. `last` says that the field is the last of the table,
     // outside a set.
     Meet {
         field: usize,
-        element: Element,
+        element: Option<usize>,
         last: bool,
         to: Spot,
     },

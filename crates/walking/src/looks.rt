@@ -5,7 +5,7 @@ ghost use Rattle.walking.specs.Walk.{place_of};
 ghost use Rattle.walking.specs.Looks.{look_by_lem, look_within_lem, look_of};
 
 use crate::places::place_at;
-use crate::{Element, Look, Place, Spot};
+use crate::{Look, Place, Spot};
 
 // At field i, wherever it stands.
 fn look_by(words: &[u64], i: usize) -> Look
@@ -18,7 +18,7 @@ fn look_by(words: &[u64], i: usize) -> Look
         Place::Inside => Look::Pass(to),
         Place::Plain => Look::Meet {
             field: i,
-            element: Element::Outside,
+            element: None,
             last: i + 1 == tables::field_count(words),
             to,
         },
@@ -36,7 +36,7 @@ fn look_within(words: &[u64], k: usize, n: usize, e: usize, j: usize) -> Look
         if j < size {
             return Look::Meet {
                 field: start + j,
-                element: Element::At(e),
+                element: Some(e),
                 last: false,
                 to: Spot::Within {
                     set: k,

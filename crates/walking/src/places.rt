@@ -9,16 +9,10 @@ use crate::Place;
 pub fn place_at(words: &[u64], i: usize) -> Place
     ensures { result ≡ place_of (table_of words.now) i }
 {
-    let m = tables::set_count(words);
-    let mut k = 0;
-    while k < m {
-        let s = tables::set_at(words, k);
-        if s.start == i {
-            return Place::Starts(k);
-        }
-        k += 1;
-    }
-    if tables::is_repetitive_field(words, i) {
+    let starting = (0..tables::set_count(words)).find(|&k| tables::set_at(words, k).start == i);
+    if let Some(k) = starting {
+        Place::Starts(k)
+    } else if tables::is_repetitive_field(words, i) {
         Place::Inside
     } else {
         Place::Plain

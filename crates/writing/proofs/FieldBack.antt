@@ -1,5 +1,6 @@
 -- One field that was weighed and is held by a payload is read back: it takes the bits that it was written in (`taken_back`), is read as what was
 -- written (`raw-back`, `reads_as`), and so is its reading (`back`). Assumes nothing.
+use Rattle.walking.specs.Walk.{Element}
 use Rattle.std.specs.Prelude.{Result, Ok, Err, Some, None}
 use mathlib.Core.Path.{◌≡◌, refl, sym, ap, ◌∙◌, subst}
 use mathlib.Core.Bool.{Bool}
@@ -21,7 +22,6 @@ use Rattle.numbers.specs.Conversions.{raw_of_lem}
 use Rattle.numbers.specs.Scaling.{scale_of}
 use Rattle.tables.specs.Table.{Table}
 use Rattle.tables.specs.Check.{payload_max}
-use Rattle.walking.specs.declared.Element.{Element}
 use Rattle.fields.specs.declared.DecodeRefusal.{DecodeRefusal}
 use Rattle.fields.specs.declared.FieldRead.{FieldRead}
 use Rattle.fields.specs.declared.FieldRead.TheVariants as read

@@ -12,9 +12,8 @@ use Rattle.bits.specs.Bits.{pick}
 use Rattle.bits.specs.Calls.{bytes}
 use Rattle.tables.specs.Table.{Table}
 use Rattle.tables.specs.Check.{Checked, check_of, payload_max}
-use Rattle.walking.specs.declared.Element.{Element}
 use Rattle.walking.specs.Runs.{Run, ran, stopped}
-use Rattle.walking.specs.Walk.{miss, walk_from}
+use Rattle.walking.specs.Walk.{miss, walk_from, Element}
 use Rattle.walking.proofs.Lawful.{Lawful, lawful-stopped, lawful-fields}
 use Rattle.fields.specs.Shapes.{shape_of, is_gap_lem}
 use Rattle.reading.proofs.Lasts.{in_table}

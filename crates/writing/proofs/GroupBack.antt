@@ -1,5 +1,5 @@
 -- Reading finds as many elements of a set as were written. Assumes nothing.
-use Rattle.std.specs.Prelude.{Result, Ok, Err}
+use Rattle.std.specs.Prelude.{Result, Ok, Err, Some}
 use mathlib.Core.Path.{◌≡◌, refl, sym, ap, ◌∙◌, subst}
 use mathlib.Core.Bool.{Bool, true, false, and-eq-true_iff}
 use mathlib.Core.List.{List}
@@ -18,10 +18,8 @@ use Rattle.tables.specs.Table.{Table}
 use Rattle.tables.specs.Rules.{class_of_lem, within, width_fits_lem, declared_bits_lem, group_bits_lem}
 use Rattle.tables.specs.Check.{check_of, payload_max}
 use Rattle.tables.proofs.Accepted.{placed, widths}
-use Rattle.walking.specs.declared.Element.{Element}
-use Rattle.walking.specs.declared.Element.TheVariants.{At}
 use Rattle.walking.specs.Runs.{Run, ran, times}
-use Rattle.walking.specs.Walk.{hit, lift, element_at}
+use Rattle.walking.specs.Walk.{hit, lift, element_at, Element}
 use Rattle.walking.proofs.Runs.{times-last}
 use Rattle.walking.proofs.Visits.{All, all_left, all_right}
 use Rattle.walking.proofs.Paired.{split, lift-ran}
@@ -179,8 +177,8 @@ module _ (t : Table) (offered : ℕ → Offer) (lent size : ℕ) where
       unfolding element_at declared_bits_lem
       element-grows k l e s ms z h =
           let q = placed t ok k l in
-          times-grow (λ j y. lift (one_of t offered lent size ((t.set k).start + j) (At e) false y)) (declared_bits_lem t (t.set k).start) (t.set k).size
-          (λ j m x us y. one_grows ((t.set k).start + j) (At e) false (declared_bits_lem t (t.set k).start j) (omega (arith, q.inside, m)) x us y) s ms z h
+          times-grow (λ j y. lift (one_of t offered lent size ((t.set k).start + j) (Some e) false y)) (declared_bits_lem t (t.set k).start) (t.set k).size
+          (λ j m x us y. one_grows ((t.set k).start + j) (Some e) false (declared_bits_lem t (t.set k).start j) (omega (arith, q.inside, m)) x us y) s ms z h
 
       set-grows : (k : ℕ) → k < t.sets → (n : ℕ) (s : Pen) (ms : List Mark) (z : Pen) → times n 0 (element_at t (one_of t offered lent size) (count_of t) too_many k) s ≡ ran ms z
           → Grows (0 * group_bits_lem t k) (n * group_bits_lem t k) s ms z

@@ -11,9 +11,8 @@ use Rattle.bits.specs.Bits.{bit, bit_at, bits_at}
 use Rattle.bits.proofs.Laws.{run-local}
 use Rattle.tables.specs.Table.{Table}
 use Rattle.tables.specs.Check.{check_of, payload_max}
-use Rattle.walking.specs.declared.Element.{Element}
 use Rattle.walking.specs.Runs.{Run, ran, stopped}
-use Rattle.walking.specs.Walk.{hit, walk_from}
+use Rattle.walking.specs.Walk.{hit, walk_from, Element}
 use Rattle.walking.proofs.Visits.{All}
 use Rattle.walking.proofs.Lawful.{Lawful, lawful-fields, lawful-ran, lawful-stopped}
 use Rattle.fields.specs.Payload.{Payload, payload_of}

@@ -12,9 +12,8 @@ use Rattle.bits.specs.declared.ByteCount.{ByteCount}
 use Rattle.bits.specs.Calls.{bytes}
 use Rattle.tables.specs.Table.{Table}
 use Rattle.tables.specs.Check.{check_of}
-use Rattle.walking.specs.declared.Element.{Element}
 use Rattle.walking.specs.Runs.{Run, ran}
-use Rattle.walking.specs.Walk.{One, hit}
+use Rattle.walking.specs.Walk.{One, hit, Element}
 use Rattle.walking.specs.Turns.{Turn, moved, met, ended, broke, turn}
 use Rattle.walking.proofs.Looked.{turn-like}
 use Rattle.walking.proofs.Machine.{Bounded, weight, Falls, moved-falls, met-falls, falls, Stands, stands-begin, stands-moved, stands-met, stands-ended, stands-broke, Meets, meets, met-law, ended-law}

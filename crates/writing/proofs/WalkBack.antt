@@ -1,6 +1,6 @@
 -- Reading walks as writing did: it meets the same fields and elements, at the same spans, with the same counters, and ends where the pen does.
 -- Assumes nothing.
-use Rattle.std.specs.Prelude.{Result, Ok, Err, None}
+use Rattle.std.specs.Prelude.{Result, Ok, Err, None, Some}
 use mathlib.Core.Path.{◌≡◌, refl, sym, ap, ap₂, ◌∙◌, subst}
 use mathlib.Core.Bool.{Bool}
 use mathlib.Core.List.{List, [], ◌∷◌, ◌++◌, map}
@@ -14,10 +14,8 @@ use Rattle.numbers.specs.Held.{Held}
 use Rattle.tables.specs.Table.{Table}
 use Rattle.tables.specs.Check.{check_of, payload_max}
 use Rattle.tables.proofs.Accepted.{placed}
-use Rattle.walking.specs.declared.Element.{Element}
-use Rattle.walking.specs.declared.Element.TheVariants.{Outside, At}
 use Rattle.walking.specs.Runs.{ran, times}
-use Rattle.walking.specs.Walk.{One, hit, check, element_at, walk_from}
+use Rattle.walking.specs.Walk.{One, hit, check, element_at, walk_from, Element}
 use Rattle.walking.proofs.Visits.{All, all_append, all_left}
 use Rattle.walking.proofs.Lawful.{Looks, plain, member, lawful-fields, lawful-ran}
 use Rattle.walking.proofs.Paired.{Follows, runs-paired}
@@ -60,8 +58,8 @@ looks-in t ok i e last (plain l) = l
 looks-in t ok i e last (member k x j l m) = let p = placed t ok k l in omega (arith, p.inside)
 
 noted-none : (t : Table) (e : Element) (i : ℕ) (cs : List ℕ) → noted_by_lem t e i None cs ≡ cs
-noted-none t Outside i cs = refl
-noted-none t (At x) i cs = refl
+noted-none t None i cs = refl
+noted-none t (Some x) i cs = refl
 
 -- ## One field, read where it was written
 

@@ -9,9 +9,8 @@ use Rattle.numbers.specs.Scaling.{bits_of}
 use Rattle.numbers.specs.Special.{elements_of}
 use Rattle.tables.specs.Table.{Table}
 use Rattle.tables.specs.Check.{Checked, check_of, payload_max, set_max}
-use Rattle.walking.specs.declared.Element.{Element}
 use Rattle.walking.specs.Runs.{Run, ran, stopped}
-use Rattle.walking.specs.Walk.{One, hit, miss, walk_from}
+use Rattle.walking.specs.Walk.{One, hit, miss, walk_from, Element}
 use Rattle.fields.specs.Shapes.{shape_of, is_gap_lem}
 use Rattle.reading.specs.Groups.{noted_by_lem}
 use Rattle.weighing.specs.declared.EncodeRefusal.{EncodeRefusal}

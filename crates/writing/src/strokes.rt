@@ -12,7 +12,7 @@ use bits::BitPos;
 use descriptor::FieldDescriptor;
 use offers::Offer;
 use reading::Span;
-use walking::{Element, Look, Spot};
+use walking::{Look, Spot};
 use weighing::{EncodeRefusal, Weighed};
 
 // A walk before its first field.
@@ -57,7 +57,7 @@ fn stroke_of(weighed: Weighed, v: Span) -> Stroke
 }
 
 // The pen once that is written.
-fn pen_after(words: &[u64], i: usize, e: Element, pen: Pen, weighed: Weighed) -> Pen
+fn pen_after(words: &[u64], i: usize, e: Option<usize>, pen: Pen, weighed: Weighed) -> Pen
     requires { Reaches pen.at.0 (Ok weighed) }
     ensures { result ≡ pen_after_lem (table_of words.now) i e pen (Ok weighed) }
 {
@@ -102,7 +102,7 @@ fn meet(
     size: usize,
     offer: Offer,
     i: usize,
-    e: Element,
+    e: Option<usize>,
     pen: Pen,
     to: Spot,
     here: Spot,

@@ -2,9 +2,9 @@
 use mathlib.Core.Path.{◌≡◌}
 use mathlib.Core.List.{List}
 use Prim.Native.Nat.{ℕ, ◌-◌, ◌≤◌}
+use Rattle.std.specs.Prelude.{None}
+use Rattle.walking.specs.Walk.{Element}
 use Rattle.tables.specs.Table.{Table, table_of}
-use Rattle.walking.specs.declared.Element.{Element}
-use Rattle.walking.specs.declared.Element.TheVariants.{Outside}
 use Rattle.fields.specs.Payload.{Payload, payload_of}
 use Rattle.reading.specs.declared.Progress.{Progress}
 use Rattle.reading.specs.Groups.{noted_by_lem}
@@ -23,7 +23,7 @@ stretch-on : {t : Table} {p : Payload} {room from end i to at made : ℕ} {e : E
 stretch-on cs g h q l = ran_then _ _ _ _ _ _ _ _ _ _ _ _ _ _ _ g (rw q (h.all cs)) l
 
 pub loop-i-init : goal.loop-i-init
-loop-i-init c = (c.requires.1.1, ran-none (table_of c.args.words.now) (payload_of c.args.s.now) c.args.room Outside c.args.from c.args.end c.args.p c.args.out.now c.requires.0)
+loop-i-init c = (c.requires.1.1, ran-none (table_of c.args.words.now) (payload_of c.args.s.now) c.args.room None c.args.from c.args.end c.args.p c.args.out.now c.requires.0)
 
 pub returns-then-i-to : goal.returns-then-i-to
 returns-then-i-to c =
