@@ -1,11 +1,10 @@
 // The encodes: by the table of a built-in message, and by any table.
 ghost use Rattle.std.specs.Prelude.{◌≤◌};
 ghost use Rattle.text.specs.Sheet.{Puts};
-ghost use Rattle.messages.specs.Messages.{message_of_lem, words_of};
+ghost use Rattle.messages.specs.Messages.{message_of_lem};
 ghost use Rattle.compose.specs.Answers.{frame_line, known_text, pgn_line, encode_text, buffer_of, table_text};
 
 use crate::answers::{put_buffer, put_made, put_malformed, put_outcome};
-use messages::Message;
 use text::put;
 
 const PGN_DIGITS: usize = 6;
@@ -33,31 +32,12 @@ fn put_frame(
     put(out, to, b'\n')
 }
 
-// The same by the message's own table.
-fn put_message(
-    message: Message,
-    pgn: u32,
-    values: &[u8],
-    lent: &[u8],
-    out: &mut [u8],
-    at: usize,
-) -> usize
-    ensures { Puts out.old at (frame_line (words_of message) pgn values.now lent.now) out.new result }
-{
-    match message {
-        Message::M129025 => put_frame(&messages::TABLE_129025, pgn, values, lent, out, at),
-        Message::M129026 => put_frame(&messages::TABLE_129026, pgn, values, lent, out, at),
-        Message::M129029 => put_frame(&messages::TABLE_129029, pgn, values, lent, out, at),
-        Message::M130900 => put_frame(&messages::TABLE_130900, pgn, values, lent, out, at),
-    }
-}
-
 // A built-in message, or 15.
 fn put_known(pgn: u32, values: &[u8], lent: &[u8], out: &mut [u8], at: usize) -> usize
     ensures { Puts out.old at (known_text (message_of_lem pgn) pgn values.now lent.now) out.new result }
 {
     match messages::message_of(pgn) {
-        Some(message) => put_message(message, pgn, values, lent, out, at),
+        Some(message) => put_frame(message.table(), pgn, values, lent, out, at),
         None => frame_lines::put_unknown(out, at, pgn),
     }
 }

@@ -55,11 +55,5 @@ fn put_walk(words: &[u64], payload: &[u8], room: usize, out: &mut [u8], at: usiz
 pub fn put_decode(message: Message, payload: &[u8], out: &mut [u8], at: usize) -> usize
     ensures { Puts out.old at (walk_text (table_of (words_of message)) (payload_of payload.now) room_enough_lem) out.new result }
 {
-    let room = room_enough();
-    match message {
-        Message::M129025 => put_walk(&messages::TABLE_129025, payload, room, out, at),
-        Message::M129026 => put_walk(&messages::TABLE_129026, payload, room, out, at),
-        Message::M129029 => put_walk(&messages::TABLE_129029, payload, room, out, at),
-        Message::M130900 => put_walk(&messages::TABLE_130900, payload, room, out, at),
-    }
+    put_walk(message.table(), payload, room_enough(), out, at)
 }

@@ -2,14 +2,13 @@
 // `tables` reads.
 //
 // Promise: `message_of` answers which message a PGN is, and this list is the only one: whoever reads or
-// writes by a PGN goes by it. Each table is the words that specs/Tables.antt lists, which the contract
-// of the function of its name says, and proofs/Accepted.antt computes that the table check accepts them.
-// None of the four has a length or a minimum. A constant can be lent only where it is named, so each
-// such caller has a match of its own from the message to its table, held to `words_of`.
+// writes by a PGN goes by it. `Message::table` lends the table of each, the words that specs/Tables.antt
+// lists, and proofs/Accepted.antt computes that the table check accepts them. None of the four has a
+// length or a minimum.
 #![tactic(auto)]
 
 ghost use Rattle.std.specs.Prelude.{◌≡◌};
-ghost use Rattle.messages.specs.Tables.{words129025, words129026, words129029, words130900};
+ghost use Rattle.messages.specs.Messages.{words_of};
 
 mod lookup;
 
@@ -69,21 +68,15 @@ const COUNTER: u64 = 0x1_0000_0000;
 const MAXIMUM: u64 = 0x1_0000_0000_0000;
 
 // Position: 2 fields.
-pub const TABLE_129025: [u64; 3] = [
+const TABLE_129025: [u64; 3] = [
     2,
     // 0 latitude, 1 longitude
     NUMBER + 32 * BIT + SIGNED + DOUBLE_1E_7,
     NUMBER + 32 * BIT + SIGNED + DOUBLE_1E_7,
 ];
 
-pub fn table_129025() -> [u64; 3]
-    ensures { result ≡ words129025 }
-{
-    TABLE_129025
-}
-
 // Course and speed over ground: 6 fields.
-pub const TABLE_129026: [u64; 7] = [
+const TABLE_129026: [u64; 7] = [
     6,
     // 0 SID, 1 COG reference, 2 Reserved
     NUMBER + 8 * BIT,
@@ -95,15 +88,9 @@ pub const TABLE_129026: [u64; 7] = [
     RESERVED + 16 * BIT,
 ];
 
-pub fn table_129026() -> [u64; 7]
-    ensures { result ≡ words129026 }
-{
-    TABLE_129026
-}
-
 // Position by satellite: 15 fields, then a set of 3 for each reference station. The last of the 15
 // says how many stations follow.
-pub const TABLE_129029: [u64; 20] = [
+const TABLE_129029: [u64; 20] = [
     18 + SETS,
     // 0 SID, 1 date, 2 time
     NUMBER + 8 * BIT,
@@ -133,14 +120,8 @@ pub const TABLE_129029: [u64; 20] = [
     15 + 3 * SIZE + 14 * COUNTER + 45 * MAXIMUM,
 ];
 
-pub fn table_129029() -> [u64; 20]
-    ensures { result ≡ words129029 }
-{
-    TABLE_129029
-}
-
 // Ours, three numbers to a sample: 8 fields.
-pub const TABLE_130900: [u64; 9] = [
+const TABLE_130900: [u64; 9] = [
     8,
     // 0 manufacturer, 1 Reserved, 2 industry, 3 SID
     LOOKUP + 11 * BIT,
@@ -154,8 +135,16 @@ pub const TABLE_130900: [u64; 9] = [
     RESERVED + 8 * BIT,
 ];
 
-pub fn table_130900() -> [u64; 9]
-    ensures { result ≡ words130900 }
-{
-    TABLE_130900
+impl Message {
+    // The message's table, in words.
+    pub fn table(self) -> &'static [u64]
+        ensures { result.now ≡ words_of self }
+    {
+        match self {
+            Message::M129025 => &TABLE_129025,
+            Message::M129026 => &TABLE_129026,
+            Message::M129029 => &TABLE_129029,
+            Message::M130900 => &TABLE_130900,
+        }
+    }
 }

@@ -40,7 +40,7 @@ Walks r after words s out =
 
 -- ## Of what was received
 
--- `known`, `by_message`: the answer and the readings, with a padding run of so many bytes
+-- `known`: the answer and the readings, with a padding run of so many bytes
 abbrev pub Reads : Decoded → List ℕ → List ℕ → List ℕ → ℕ → List ℕ → Type 0
 Reads r after words received padded out =
     let t = table_of words in

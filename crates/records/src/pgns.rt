@@ -3,13 +3,11 @@
 ghost use Rattle.std.specs.Prelude.{◌≡◌, length, Ok};
 ghost use Rattle.tables.specs.Table.{table_of};
 ghost use Rattle.tables.specs.Check.{check_of};
-ghost use Rattle.messages.specs.Messages.{words_of};
 ghost use Rattle.records.specs.Clauses.{Reads, DecodesByPgn};
 
 use crate::{ByPgn, into};
 use bits::ByteCount;
 use fields::DecodeRefusal;
-use messages::Message;
 use reading::Decoded;
 
 // By an accepted table that fills nothing.
@@ -36,18 +34,6 @@ fn known(words: &[u64], received: &[u8], padded: &[u8], out: &mut [u8]) -> Decod
     }
 }
 
-// By the table of a message.
-fn by_message(message: Message, received: &[u8], padded: &[u8], out: &mut [u8]) -> Decoded
-    ensures { Reads result out.new (words_of message) received.now (length padded.now) out.old }
-{
-    match message {
-        Message::M129025 => known(&messages::TABLE_129025, received, padded, out),
-        Message::M129026 => known(&messages::TABLE_129026, received, padded, out),
-        Message::M129029 => known(&messages::TABLE_129029, received, padded, out),
-        Message::M130900 => known(&messages::TABLE_130900, received, padded, out),
-    }
-}
-
 // Every field of a received payload, by the table of its PGN, into records. The padding run is of 223
 // bytes; no table that is built in fills it.
 pub fn decode_pgn_into(pgn: u32, received: &[u8], padded: &[u8], out: &mut [u8]) -> ByPgn
@@ -55,7 +41,7 @@ pub fn decode_pgn_into(pgn: u32, received: &[u8], padded: &[u8], out: &mut [u8])
 {
     match messages::message_of(pgn) {
         Some(message) => {
-            let decoded = by_message(message, received, padded, out);
+            let decoded = known(message.table(), received, padded, out);
             ByPgn::Known(decoded)
         }
         None => ByPgn::Unknown,

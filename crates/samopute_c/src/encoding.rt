@@ -1,11 +1,9 @@
 // Encoding: the values come in lent bytes as records, laid out as specs/Records.antt of `offers` says.
 ghost use Rattle.std.specs.Prelude.{◌≡◌};
-ghost use Rattle.messages.specs.Messages.{words_of};
 ghost use Rattle.samopute_c.specs.Encodes.{encoded_status, encoded_cells};
 ghost use Rattle.samopute_c.specs.Clauses.{Encodes, EncodesPgn};
 
 use bits::ByteCount;
-use messages::Message;
 use weighing::EncodeRefusal;
 
 // Lays out an encode's answer: its status is 0, or the refusal's number.
@@ -44,24 +42,6 @@ pub fn samopute_encode(
     tell_encoded(answer, encoded)
 }
 
-// The same by the table of a message.
-fn by_message(
-    message: Message,
-    values: &[u8],
-    text: &[u8],
-    payload: &mut [u8],
-    answer: &mut [u64; 4],
-) -> u32
-    ensures { Encodes result payload.new answer.new (words_of message) values.now text.now payload.old }
-{
-    match message {
-        Message::M129025 => samopute_encode(&messages::TABLE_129025, values, text, payload, answer),
-        Message::M129026 => samopute_encode(&messages::TABLE_129026, values, text, payload, answer),
-        Message::M129029 => samopute_encode(&messages::TABLE_129029, values, text, payload, answer),
-        Message::M130900 => samopute_encode(&messages::TABLE_130900, values, text, payload, answer),
-    }
-}
-
 // The same by the table that is built in for a PGN; 15 if there is none.
 pub fn samopute_encode_pgn(
     pgn: u32,
@@ -73,7 +53,7 @@ pub fn samopute_encode_pgn(
     ensures { EncodesPgn result payload.new answer.new pgn values.now text.now payload.old }
 {
     match messages::message_of(pgn) {
-        Some(message) => by_message(message, values, text, payload, answer),
+        Some(message) => samopute_encode(message.table(), values, text, payload, answer),
         None => {
             *answer = [0, pgn as u64, 0, 0];
             15

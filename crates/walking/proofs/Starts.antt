@@ -48,7 +48,7 @@ module _ (t : Table) (i : ℕ) where
   -- the sets before the one that is found start elsewhere
   pub place-found : (m : ℕ) (r : Option ℕ)
       → MatchOption r ((k : ℕ) → 0 ≤ k → k < m → eqb (t.set k).start i ≡ false)
-          (λ (k : ℕ). (0 ≤ k) × (k < m) × (eqb (t.set k).start i ≡ true) × ((j : ℕ) → 0 ≤ j → j < k → eqb (t.set j).start i ≡ false))
+      (λ (k : ℕ). (0 ≤ k) × (k < m) × (eqb (t.set k).start i ≡ true) × ((j : ℕ) → 0 ≤ j → j < k → eqb (t.set j).start i ≡ false))
       → m ≡ t.sets → place_of t i ≡ placed r
   place-found m None h e = sym (ap (place_from t i 0) e) ∙ place_none m (λ j l. h j (omega arith) l)
   place-found m (Some k) h e = sym (ap (place_from t i 0) e) ∙ place-upto k m (omega (arith, h.1)) (λ j l. h.3 j (omega arith) l) ∙ place_here k m h.1 h.2
