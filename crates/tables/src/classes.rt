@@ -1,6 +1,6 @@
 // The rules b to e, of a field by itself.
 ghost use Rattle.std.specs.Prelude.{◌≡◌, true, pos, negsuc};
-ghost use Rattle.tables.specs.Rules.{class_of_lem, known, within, whole_bytes_lem, width_fits_lem, scales, in_scale_lem, resolution_fits_lem, scaled, sign_fits_lem, counts};
+ghost use Rattle.tables.specs.Rules.{class_of_lem, known, whole_bytes_lem, width_fits_lem, scales, in_scale_lem, resolution_fits_lem, scaled, sign_fits_lem, counts};
 
 use crate::KindClass;
 use descriptor::{FieldKind, Resolution};
@@ -42,16 +42,10 @@ pub(crate) fn is_known(c: KindClass) -> bool
     !matches!(c, KindClass::Unknown)
 }
 
-pub(crate) fn is_within(lo: usize, hi: usize, n: usize) -> bool
-    ensures { result ≡ within lo hi n }
-{
-    lo <= n && n <= hi
-}
-
 fn whole_bytes(w: u32) -> bool
     ensures { result ≡ whole_bytes_lem w }
 {
-    w % 8 == 0 && is_within(8, 1784, w as usize)
+    w % 8 == 0 && (8..=1784).contains(&w)
 }
 
 // c
@@ -63,7 +57,7 @@ pub(crate) fn width_fits(c: KindClass, w: u32) -> bool
         KindClass::Fixed => whole_bytes(w),
         KindClass::Lz | KindClass::Lau => w == 0,
         KindClass::Raw => whole_bytes(w) || (w % 8 != 0 && w <= 63),
-        _ => is_within(1, 64, w as usize),
+        _ => (1..=64).contains(&w),
     }
 }
 

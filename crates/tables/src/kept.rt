@@ -12,8 +12,7 @@ use descriptor::Resolution;
 fn numeric_is_kept(width: u32, resolution: Resolution) -> bool
     ensures { result ≡ true → (width_fits_lem KindClass.Numeric width ≡ true) × (resolution_fits_lem KindClass.Numeric resolution ≡ true) }
 {
-    classes::is_within(1, 64, width as usize)
-        && classes::resolution_fits(KindClass::Numeric, resolution)
+    (1..=64).contains(&width) && classes::resolution_fits(KindClass::Numeric, resolution)
 }
 
 // Whether field i keeps the rules b to f: a simple number does.

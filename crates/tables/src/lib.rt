@@ -43,7 +43,7 @@ pub struct RepeatingFieldSet {
 // The rules, by document 01's letters.
 #[derive(Clone, Copy)]
 pub enum TableRule {
-    A,
+    A = 1,
     B,
     C,
     D,
@@ -94,15 +94,6 @@ impl TableRule {
     pub fn letter(self) -> u32
         ensures { result ≡ letter_of self }
     {
-        match self {
-            TableRule::A => 1,
-            TableRule::B => 2,
-            TableRule::C => 3,
-            TableRule::D => 4,
-            TableRule::E => 5,
-            TableRule::F => 6,
-            TableRule::G => 7,
-            TableRule::H => 8,
-        }
+        self as u32
     }
 }

@@ -1,7 +1,7 @@
 // Whether a field or a set keeps a rule.
 ghost use Rattle.std.specs.Prelude.{◌≡◌, ◌&&◌, ◌||◌, leb, eqb};
 ghost use Rattle.tables.specs.Table.{table_of};
-ghost use Rattle.tables.specs.Rules.{within, place_fits_lem, set_fits_lem, counter_fits_lem, counter_field_fits_lem, last_only};
+ghost use Rattle.tables.specs.Rules.{place_fits_lem, set_fits_lem, counter_fits_lem, counter_field_fits_lem, last_only};
 ghost use Rattle.tables.specs.Check.{keeps, reach, sizes_fit_lem, length_fits, field_max, set_max};
 
 use crate::words::{field_at, field_count, length_of, minimum_of, set_at, set_count};
@@ -18,7 +18,7 @@ fn lengths_fit(length: usize, minimum: usize) -> bool
 pub(crate) fn sizes_fit(words: &[u64]) -> bool
     ensures { result ≡ sizes_fit_lem (table_of words.now) }
 {
-    classes::is_within(1, FIELD_MAX, field_count(words))
+    (1..=FIELD_MAX).contains(&field_count(words))
         && set_count(words) <= SET_MAX
         && lengths_fit(length_of(words), minimum_of(words))
 }
@@ -49,7 +49,7 @@ pub(crate) fn set_fits(words: &[u64], k: usize) -> bool
         && s.start + s.size <= field_count(words)
         && 1 <= sets::declared_bits(words, s.start, s.size)
         && 1 <= s.size
-        && classes::is_within(1, 255, s.maximum)
+        && (1..=255).contains(&s.maximum)
 }
 
 // h, of the counter's own field
@@ -60,7 +60,7 @@ fn counter_field_fits(words: &[u64], i: usize) -> bool
     classes::can_count(f.kind)
         && !f.signed
         && !classes::is_scaled(f.resolution)
-        && classes::is_within(1, 32, f.width as usize)
+        && (1..=32).contains(&f.width)
 }
 
 // h
