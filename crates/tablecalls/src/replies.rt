@@ -1,29 +1,22 @@
 // The answers of the table check, and a chunk of input, line by line.
 ghost use Rattle.std.specs.Prelude.{◌≡◌};
 ghost use Rattle.text.specs.Sheet.{Puts};
-ghost use Rattle.tables.specs.Check.{letter_of};
 ghost use Rattle.tablecalls.specs.Answers.{checked_text, answered};
 
 use lines::Answers;
-use tables::{BrokenRule, TableRule};
+use tables::BrokenRule;
 
 // The number of the refusal of a table, which carries the rule and the index.
 const TABLE_REFUSED: usize = 8;
-
-fn letter(rule: TableRule) -> usize
-    ensures { result ≡ letter_of rule }
-{
-    let place = rule.letter();
-    place as usize
-}
 
 fn put_checked(out: &mut [u8], at: usize, checked: Result<(), BrokenRule>) -> usize
     ensures { Puts out.old at (checked_text checked) out.new result }
 {
     match checked {
         Ok(()) => text::put_text(out, at, b"ok"),
-        Err(BrokenRule { rule, index }) => {
-            text::put_refused(out, at, TABLE_REFUSED, 2, letter(rule), index, 0)
+        Err(broken) => {
+            let letter = broken.rule.letter() as usize;
+            text::put_refused(out, at, TABLE_REFUSED, 2, letter, broken.index, 0)
         }
     }
 }

@@ -30,30 +30,28 @@ fn look_within(words: &[u64], k: usize, n: usize, e: usize, j: usize) -> Look
     ensures { result ≡ look_within_lem (table_of words.now) k n e j }
 {
     let set = tables::set_at(words, k);
-    let start = set.start;
-    let size = set.size;
-    if e < n {
-        if j < size {
-            return Look::Meet {
-                field: start + j,
-                element: Some(e),
-                last: false,
-                to: Spot::Within {
-                    set: k,
-                    count: n,
-                    element: e,
-                    offset: j + 1,
-                },
-            };
-        }
-        return Look::Pass(Spot::Within {
+    if n <= e {
+        Look::Pass(Spot::Field(set.start + 1))
+    } else if set.size <= j {
+        Look::Pass(Spot::Within {
             set: k,
             count: n,
             element: e + 1,
             offset: 0,
-        });
+        })
+    } else {
+        Look::Meet {
+            field: set.start + j,
+            element: Some(e),
+            last: false,
+            to: Spot::Within {
+                set: k,
+                count: n,
+                element: e,
+                offset: j + 1,
+            },
+        }
     }
-    Look::Pass(Spot::Field(start + 1))
 }
 
 pub fn look_at(words: &[u64], spot: Spot) -> Look
@@ -62,9 +60,10 @@ pub fn look_at(words: &[u64], spot: Spot) -> Look
     match spot {
         Spot::Field(i) => {
             if i < tables::field_count(words) {
-                return look_by(words, i);
+                look_by(words, i)
+            } else {
+                Look::End
             }
-            Look::End
         }
         Spot::Within {
             set,
