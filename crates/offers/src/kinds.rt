@@ -10,80 +10,52 @@ ghost use Rattle.offers.specs.Records.{within, offer_of_lem};
 use crate::Offer;
 use descriptor::PgnValue;
 
-// How far the number that a word is in two's complement is from 0, or from -1 below 0.
-fn reach(word: u64) -> u64
-    ensures { result ≡ mag (signed_of 64 word) }
-{
-    if word < 0x8000_0000_0000_0000 {
-        return word;
-    }
-    0xffff_ffff_ffff_ffff - word
-}
-
 fn as_u32(word: u64) -> Offer
     ensures { result ≡ within word (2 ^ 32) (U32 word) }
 {
-    if word < 0x1_0000_0000 {
-        return Offer::Value(PgnValue::U32(word as u32));
-    }
-    Offer::NoKind
+    u32::try_from(word).map_or(Offer::NoKind, |n| Offer::Value(PgnValue::U32(n)))
 }
 
 fn as_u16(word: u64) -> Offer
     ensures { result ≡ within word (2 ^ 16) (U16 word) }
 {
-    if word < 0x1_0000 {
-        return Offer::Value(PgnValue::U16(word as u16));
-    }
-    Offer::NoKind
+    u16::try_from(word).map_or(Offer::NoKind, |n| Offer::Value(PgnValue::U16(n)))
 }
 
 fn as_u8(word: u64) -> Offer
     ensures { result ≡ within word (2 ^ 8) (U8 word) }
 {
-    if word < 0x100 {
-        return Offer::Value(PgnValue::U8(word as u8));
-    }
-    Offer::NoKind
+    u8::try_from(word).map_or(Offer::NoKind, |n| Offer::Value(PgnValue::U8(n)))
 }
 
 fn as_i32(word: u64) -> Offer
     ensures { result ≡ within (mag (signed_of 64 word)) (2 ^ 31) (I32 (signed_of 64 word)) }
 {
-    if reach(word) < 0x8000_0000 {
-        let z = numbers::sign_extend(word, 64);
-        return Offer::Value(PgnValue::I32(z as i32));
-    }
-    Offer::NoKind
+    let signed = numbers::sign_extend(word, 64);
+    i32::try_from(signed).map_or(Offer::NoKind, |n| Offer::Value(PgnValue::I32(n)))
 }
 
 fn as_i16(word: u64) -> Offer
     ensures { result ≡ within (mag (signed_of 64 word)) (2 ^ 15) (I16 (signed_of 64 word)) }
 {
-    if reach(word) < 0x8000 {
-        let z = numbers::sign_extend(word, 64);
-        return Offer::Value(PgnValue::I16(z as i16));
-    }
-    Offer::NoKind
+    let signed = numbers::sign_extend(word, 64);
+    i16::try_from(signed).map_or(Offer::NoKind, |n| Offer::Value(PgnValue::I16(n)))
 }
 
 fn as_i8(word: u64) -> Offer
     ensures { result ≡ within (mag (signed_of 64 word)) (2 ^ 7) (I8 (signed_of 64 word)) }
 {
-    if reach(word) < 0x80 {
-        let z = numbers::sign_extend(word, 64);
-        return Offer::Value(PgnValue::I8(z as i8));
-    }
-    Offer::NoKind
+    let signed = numbers::sign_extend(word, 64);
+    i8::try_from(signed).map_or(Offer::NoKind, |n| Offer::Value(PgnValue::I8(n)))
 }
 
 fn as_f32(word: u64) -> Offer
     ensures { result ≡ within word (2 ^ 32) (F32 (of_bits binary32 word)) }
 {
-    if word < 0x1_0000_0000 {
-        return Offer::Value(PgnValue::F32(rounding::f32_of_bits(word as u32)));
-    }
-    Offer::NoKind
+    u32::try_from(word).map_or(
+        Offer::NoKind,
+        |bits| Offer::Value(PgnValue::F32(rounding::f32_of_bits(bits))),
+    )
 }
 
 // The number with this code and these 64 bits. A code of no number is of no kind, and so are bits that

@@ -1,5 +1,3 @@
--- values that are no text are 11 in a text field; lengths and tests that come to the same
-pub mod Weighs
 -- a value in a field of an accepted table gives no refusal but 2, 3, 10, 11 and 13
 pub mod Given
 -- every contract leaves one answer and one content of each lent buffer

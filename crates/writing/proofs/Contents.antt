@@ -1,4 +1,4 @@
--- What is written at a field, by its shape and the offer; and that it lies in the buffer. Assumes nothing.
+-- What is written at a field lies in the buffer. Assumes nothing.
 use Rattle.std.specs.Prelude.{Result, Ok, Err}
 use mathlib.Core.Path.{◌≡◌, refl}
 use mathlib.Core.Bool.{Bool, true, false, false≢true}
@@ -22,15 +22,6 @@ use Rattle.writing.specs.declared.Pen.{Pen}
 use Rattle.writing.specs.Strokes.{Reaches, put_by}
 use Rattle.writing.specs.Ones.{inks}
 use Rattle.writing.proofs.Puts.{weighed-puts, gap-puts}
-
-pub content-gap : (o : Offer) (f : FieldDescriptor) (i lent size at : ℕ) → is_gap_lem (shape_of f) ≡ true → gap_of f i size at ≡ content_of_lem o f i lent size at
-content-gap o f i lent size at e = rw e
-
--- another name of the offer, where code has taken it apart
-pub content-offered : (f : FieldDescriptor) (i lent size at : ℕ) → is_gap_lem (shape_of f) ≡ false → (o o' : Offer) → o ≡ o' → offered_of o f i lent size at ≡ content_of_lem o' f i lent size at
-content-offered f i lent size at e o o' q = rw (e, q)
-
--- ## What is written lies in the buffer
 
 module _ (size at lent : ℕ) where
   pub content-puts : (o : Offer) (f : FieldDescriptor) (i : ℕ) → Puttable size at (content_of_lem o f i lent size at) lent

@@ -2,7 +2,7 @@
 pub mod Pours
 -- what was weighed has room in the buffer and lies in the lent text
 pub mod Puts
--- 7 and 8 by their tests
+-- 7 by its test
 pub mod Readied
 -- what is written at a field, by its shape and the offer, lies in the buffer
 pub mod Contents

@@ -6,18 +6,8 @@ use native.Mathlib.Omega.{arith}
 use lib.ListN.{length, take, drop, get_or, replicate, length-take, length-drop, length-replicate, replicate-append-replicate}
 use lib.Seq.{take-suc}
 use Rattle.bits.specs.Bits.{written}
-use Rattle.bits.specs.Calls.{cursor_at, written_in, written_of}
-use Rattle.bits.specs.declared.Room.{Room}
-use Rattle.bits.proofs.Rooms.{room_fits}
 use Rattle.bits.proofs.Laws.{length-written}
-use Rattle.tables.specs.Check.{payload_max}
 use Rattle.writing.specs.Ink.{poured}
-
--- a byte that lies in the buffer is written
-pub byte-in : (s : List ℕ) (at x : ℕ) → length s ≤ payload_max → at + 8 ≤ length s * 8 → written_of s (cursor_at at) 8 8 x ≡ written s at 8 x
-byte-in s at x l m =
-    ap (λ (r : Room). written_in r s (cursor_at at) 8 x)
-    (room_fits (length s) at 8 8 (record { short = omega (arith, l); some = omega arith; narrow = omega arith; inside = omega (arith, m) }))
 
 pub length-poured : (s : List ℕ) (at : ℕ) (xs : List ℕ) → length (poured s at xs) ≡ length s
 unfolding poured

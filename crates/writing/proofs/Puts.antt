@@ -1,20 +1,18 @@
 -- What was weighed has room. Assumes nothing.
 use Rattle.std.specs.Prelude.{Result, Ok, Err, Option, Some, None}
-use mathlib.Core.Path.{◌≡◌, refl, sym, ap}
+use mathlib.Core.Path.{◌≡◌, refl, sym}
 use mathlib.Core.Bool.{Bool, true, false, not, ◌||◌}
-use mathlib.Core.List.{List}
-use Prim.Native.Nat.{ℕ, ◌+◌, ◌-◌, ◌*◌, ◌/◌, ◌%◌, ◌≤◌, ◌<◌}
+use Prim.Native.Nat.{ℕ, ◌+◌, ◌-◌, ◌*◌, ◌/◌, ◌%◌, ◌≤◌}
 use native.Mathlib.Omega.{arith}
 use lib.Dec.{eqb, ltb}
-use lib.ListN.{length}
 use borrow.Author.Tests.{ltb-false, eqb-true, not-false}
 use Rattle.weighing.specs.declared.EncodeRefusal.{EncodeRefusal}
-use Rattle.bits.specs.Bits.{pick, written}
-use Rattle.bits.specs.Calls.{bits, saturated, cursor_at, room_of, written_in, written_of}
+use Rattle.bits.specs.Bits.{pick}
+use Rattle.bits.specs.Calls.{bits, saturated, room_of}
 use Rattle.bits.specs.declared.BitRefusal.TheVariants.{NonAlignedBit, OutOfBits}
 use Rattle.bits.specs.declared.Room.{Room}
 use Rattle.bits.specs.declared.Room.TheVariants as room
-use Rattle.bits.proofs.Rooms.{fitting, room_fits}
+use Rattle.bits.proofs.Rooms.{fitting}
 use Rattle.descriptor.specs.declared.FieldDescriptor.{FieldDescriptor}
 use Rattle.descriptor.specs.declared.PgnBytes.{PgnBytes}
 use Rattle.descriptor.specs.declared.PgnValue.{PgnValue}
@@ -33,11 +31,6 @@ use Rattle.weighing.specs.declared.EncodeRefusal.TheVariants.{BitWriteError, Tex
 use Rattle.weighing.specs.Weigh.{if_room_lem, if_aligned_lem, at_field_lem, number_by, gap_of, text_by, unencoded, lau_by, by_bytes, weighed_by, weighed_of}
 use Rattle.tables.specs.Check.{payload_max}
 use Rattle.writing.specs.Ink.{Whole, Puttable}
-
--- a number that lies in the buffer is written
-pub number_in : (s : List ℕ) (at n v : ℕ) → length s ≤ payload_max → 0 < n → n ≤ 64 → at + n ≤ length s * 8 → written_of s (cursor_at at) n 64 v ≡ written s at n v
-number_in s at n v l p q m =
-    ap (λ (r : Room). written_in r s (cursor_at at) n v) (room_fits (length s) at n 64 (record { short = omega (arith, l); some = p; narrow = q; inside = m }))
 
 module _ (size at lent : ℕ) where
   abbrev P : Result Weighed EncodeRefusal → Type 0
