@@ -5,10 +5,11 @@ use Prim.Native.Nat.{ℕ, ◌+◌, ◌*◌, ◌≤◌, ◌<◌}
 use native.Mathlib.Omega.{arith}
 use lib.ListN.{length}
 use Rattle.walking.specs.Walk.{Element}
-use Rattle.std.specs.Prelude.{Option, Some, None}
+use Rattle.std.specs.Prelude.{Option, Some, None, Result, Ok, Err}
 use Rattle.text.specs.Digits.{decimal_of, spaced}
 use Rattle.text.specs.Refusals.{refused_text}
 use Rattle.text.proofs.Sizes.{plus, decimal-size, hex-size, fixed-size, spaced-size, refused-size}
+use Rattle.bits.specs.declared.BitPos.{BitPos}
 use Rattle.descriptor.specs.declared.Availability.{Availability}
 use Rattle.descriptor.specs.declared.Availability.TheVariants.{Available, NotAvailable}
 use Rattle.descriptor.specs.declared.PgnValue.{PgnValue}
@@ -18,12 +19,10 @@ use Rattle.fields.specs.declared.DecodeRefusal.{DecodeRefusal}
 use Rattle.fields.specs.Refusals.{number_of, carried_of}
 use Rattle.fields.specs.Payload.{Payload}
 use Rattle.reading.specs.declared.Reading.{Reading}
-use Rattle.reading.specs.declared.Decoded.{Decoded}
-use Rattle.reading.specs.declared.Decoded.TheVariants as decoded
 use Rattle.reading.specs.Decode.{walk_of, readings, spans_of, end_of}
 use Rattle.reading.proofs.Seated as seats
 use Rattle.frame_lines.specs.Lines.{newline, pgn_text, frame_line, unknown_line, element_text, availability_text, value_text, raw_text, head_text, reading_line, end_line, refusal_line}
-use Rattle.frame_lines.specs.Decode.{reading_lines, last_line_lem, walk_text}
+use Rattle.frame_lines.specs.Decode.{reading_lines, last_line_by, last_line_lem, walk_text}
 use Rattle.frame_lines.proofs.Carried.{few}
 
 element-size : (e : Element) → length (element_text e) ≤ 21
@@ -82,9 +81,9 @@ refusal-size e =
     let a : length (refused_text (number_of e) (carried_of e)) ≤ 85 = refused-size (number_of e) (carried_of e) (few e) in
     omega (arith, plus (refused_text (number_of e) (carried_of e)) newline 85 1 a (omega arith))
 
-last-size : (d : Decoded) → length (last_line_lem d) ≤ 130
-last-size (decoded.Ended end count) = end-size end.0
-last-size (decoded.Refused e count) = refusal-size e
+last-size : (o : Result BitPos DecodeRefusal) → length (last_line_by o) ≤ 130
+last-size (Ok end) = end-size end.0
+last-size (Err e) = refusal-size e
 
 -- readings by any text of at most n bytes
 pub texts-size : (text : Reading → List ℕ) (n : ℕ) → ((r : Reading) → length (text r) ≤ n) → (rs : List Reading) → length (flat_map text rs) ≤ length rs * n
@@ -98,7 +97,7 @@ texts-size text n h (r ∷ rs) =
 pub walk-size : (t : Table) (p : Payload) (room : ℕ) → length (walk_text t p room) ≤ room * 130 + 130
 walk-size t p room =
     let rs = readings t p (spans_of (walk_of t p room)) in
-    omega (arith, plus (reading_lines rs) (last_line_lem (end_of t p (walk_of t p room))) (length rs * 130) 130 (texts-size reading_line 130 reading-size rs) (last-size (end_of t p (walk_of t p room))), seats.few t p room)
+    omega (arith, plus (reading_lines rs) (last_line_lem (end_of t p (walk_of t p room))) (length rs * 130) 130 (texts-size reading_line 130 reading-size rs) (last-size (end_of t p (walk_of t p room)).end), seats.few t p room)
 
 -- ## The other lines
 pub frame-size : (pgn received : ℕ) → (0 < length (frame_line pgn received)) × (length (frame_line pgn received) ≤ 30)

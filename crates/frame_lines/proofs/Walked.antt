@@ -5,15 +5,17 @@ use mathlib.Core.Bool.{true, false}
 use mathlib.Core.List.{List, [], ◌∷◌, ◌++◌, append-nil, append_assoc, flat_map}
 use Prim.Native.Nat.{ℕ}
 use native.Mathlib.Omega.{arith}
+use Rattle.std.specs.Prelude.{Result, Ok, Err}
 use Rattle.text.specs.Sheet.{Puts}
 use Rattle.text.proofs.Sheets.{nothing, then, same}
 use Rattle.tables.specs.Table.{Table}
 use Rattle.walking.proofs.Machine.{stands-begin}
+use Rattle.fields.specs.declared.DecodeRefusal.{DecodeRefusal}
 use Rattle.fields.specs.Payload.{Payload}
 use Rattle.reading.specs.declared.Reading.{Reading}
 use Rattle.reading.specs.declared.Walk.{Walk}
 use Rattle.reading.specs.declared.Answer.{Answer}
-use Rattle.reading.specs.declared.Answer.TheVariants.{Met, Skipped, Moved, Ended, Refused}
+use Rattle.reading.specs.declared.Answer.TheVariants.{Met, Skipped, Moved, Ended}
 use Rattle.reading.specs.declared.Next.{Next}
 use Rattle.reading.specs.Groups.{too_many}
 use Rattle.reading.specs.Decode.{one_of, count_of, beginning, readings}
@@ -23,12 +25,12 @@ use Rattle.frame_lines.specs.Lines.{reading_line}
 use Rattle.frame_lines.specs.Decode.{last_line_lem, walk_text, turn_text}
 
 -- the last turn hands out nothing
-none-handed : (a : Answer) → goes_on_lem a ≡ false → handed a ≡ []
-none-handed (Met r) o = let y : ◌≡◌ {A = ℕ} 0 1 = cc in absurd (omega arith)
-none-handed (Skipped v) o = refl
-none-handed Moved o = refl
-none-handed Ended o = refl
-none-handed (Refused f) o = refl
+none-handed : (a : Result Answer DecodeRefusal) → goes_on_lem a ≡ false → handed a ≡ []
+none-handed (Ok (Met r)) o = let y : ◌≡◌ {A = ℕ} 0 1 = cc in absurd (omega arith)
+none-handed (Ok (Skipped v)) o = refl
+none-handed (Ok Moved) o = refl
+none-handed (Ok Ended) o = refl
+none-handed (Err f) o = refl
 
 module _ (text : Reading → List ℕ) where
   texts-append : (rs qs : List Reading) → flat_map text (rs ++ qs) ≡ flat_map text rs ++ flat_map text qs
@@ -68,25 +70,25 @@ module _ (text : Reading → List ℕ) where
 -- ## The lines of this crate
 
 -- a turn that is not the last has the line of the reading that it hands out, if it does
-pub turn_lines : (a : Answer) (end : ℕ) → goes_on_lem a ≡ true → turn_text a end ≡ flat_map reading_line (handed a)
+pub turn_lines : (a : Result Answer DecodeRefusal) (end : ℕ) → goes_on_lem a ≡ true → turn_text a end ≡ flat_map reading_line (handed a)
 unfolding flat_map
-turn_lines (Met r) end o = sym (append-nil (reading_line r))
-turn_lines (Skipped v) end o = refl
-turn_lines Moved end o = refl
-turn_lines Ended end o = let y : ◌≡◌ {A = ℕ} 0 1 = cc in absurd (omega arith)
-turn_lines (Refused f) end o = let y : ◌≡◌ {A = ℕ} 0 1 = cc in absurd (omega arith)
+turn_lines (Ok (Met r)) end o = sym (append-nil (reading_line r))
+turn_lines (Ok (Skipped v)) end o = refl
+turn_lines (Ok Moved) end o = refl
+turn_lines (Ok Ended) end o = let y : ◌≡◌ {A = ℕ} 0 1 = cc in absurd (omega arith)
+turn_lines (Err f) end o = let y : ◌≡◌ {A = ℕ} 0 1 = cc in absurd (omega arith)
 
 module _ (t : Table) (p : Payload) (room : ℕ) where
   -- the last line: the end, or the refusal
   last_line : (w : Walk) (g : Going t p room w) (n : Next) → Turned t p room w g n → goes_on_lem n.answer ≡ false → turn_text n.answer n.walk.progress.at.0 ≡ last_line_lem (whole t p room)
   last_line w g n u o = go n.answer refl o
     where
-      go : (a : Answer) → n.answer ≡ a → goes_on_lem a ≡ false → turn_text a n.walk.progress.at.0 ≡ last_line_lem (whole t p room)
-      go (Met r) e h = let y : ◌≡◌ {A = ℕ} 0 1 = cc in absurd (omega arith)
-      go (Skipped v) e h = let y : ◌≡◌ {A = ℕ} 0 1 = cc in absurd (omega arith)
-      go Moved e h = let y : ◌≡◌ {A = ℕ} 0 1 = cc in absurd (omega arith)
-      go Ended e h = sym (ap last_line_lem (u.ends e))
-      go (Refused f) e h = sym (ap last_line_lem (u.stops f e))
+      go : (a : Result Answer DecodeRefusal) → n.answer ≡ a → goes_on_lem a ≡ false → turn_text a n.walk.progress.at.0 ≡ last_line_lem (whole t p room)
+      go (Ok (Met r)) e h = let y : ◌≡◌ {A = ℕ} 0 1 = cc in absurd (omega arith)
+      go (Ok (Skipped v)) e h = let y : ◌≡◌ {A = ℕ} 0 1 = cc in absurd (omega arith)
+      go (Ok Moved) e h = let y : ◌≡◌ {A = ℕ} 0 1 = cc in absurd (omega arith)
+      go (Ok Ended) e h = sym (ap last_line_lem (u.ends e))
+      go (Err f) e h = sym (ap last_line_lem (u.stops f e))
 
   pub ends : {old mid new : List ℕ} {at by to : ℕ} {w : Walk} {n : Next} (q : Printed reading_line t p room old at mid by w) → Turned t p room w q.going n
       → goes_on_lem n.answer ≡ false → Puts mid by (turn_text n.answer n.walk.progress.at.0) new to → Puts old at (walk_text t p room) new to

@@ -10,18 +10,19 @@ ghost use Rattle.frame_lines.specs.Decode.{turn_text, walk_text};
 
 use crate::rows::{put_end, put_reading, put_refusal};
 use messages::Message;
-use reading::{Answer, Came, came_to, next_field, room_enough};
+use fields::DecodeRefusal;
+use reading::{Answer, came_to, next_field, room_enough};
 
 // The line of a turn of the walk, if it has one: a reading, the end or the refusal.
-fn put_turn(out: &mut [u8], at: usize, answer: Answer, end: usize) -> usize
+#[tactic(auto, using(text::proofs::Sheets::nothing))]
+fn put_turn(out: &mut [u8], at: usize, answer: Result<Answer, DecodeRefusal>, end: usize) -> usize
     ensures { Puts out.old at (turn_text answer end) out.new result }
 {
     match answer {
-        Answer::Met(reading) => put_reading(out, at, reading),
-        Answer::Skipped(_) => at,
-        Answer::Moved => at,
-        Answer::Ended => put_end(out, at, end),
-        Answer::Refused(e) => put_refusal(out, at, e),
+        Ok(Answer::Met(reading)) => put_reading(out, at, reading),
+        Ok(Answer::Skipped(_) | Answer::Moved) => at,
+        Ok(Answer::Ended) => put_end(out, at, end),
+        Err(e) => put_refusal(out, at, e),
     }
 }
 
@@ -34,18 +35,12 @@ fn put_walk(words: &[u64], payload: &[u8], room: usize, out: &mut [u8], at: usiz
     let mut to = at;
     loop {
         let next = next_field(words, payload, room, walk);
-        let answer = next.answer;
-        let after = next.walk;
-        let progress = after.progress;
-        to = put_turn(out, to, answer, progress.at.0);
-        match came_to(next) {
-            Came::On => {
-                walk = after;
-            }
-            Came::To(_) => {
-                return to;
-            }
+        let progress = next.walk.progress;
+        to = put_turn(out, to, next.answer, progress.at.0);
+        if came_to(next).is_some() {
+            return to;
         }
+        walk = next.walk;
     }
 }
 

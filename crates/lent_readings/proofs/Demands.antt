@@ -18,9 +18,8 @@ use Rattle.fields.specs.Payload.{payload_of}
 use Rattle.reading.specs.declared.Span.{Span}
 use Rattle.reading.specs.declared.Progress.{Progress}
 use Rattle.reading.specs.declared.Reading.{Reading}
-use Rattle.reading.specs.declared.Decoded.TheVariants as decoded
 use Rattle.reading.specs.Filling.{working_of}
-use Rattle.reading.specs.Decode.{walk_of, readings, spans_of, decoded_of_lem, readings_of}
+use Rattle.reading.specs.Decode.{walk_of, readings, spans_of, decoded_of_lem, readings_of, ended_at, refused_with}
 use Rattle.reading.specs.Demand3.{Demand3, Free, span_in, unskipped_in, room_enough_lem}
 use Rattle.reading.proofs.Answered.{Decodes, answers, answered, reads, two_runs, enough-room}
 use Rattle.reading.proofs.Demand3.{demand-3}
@@ -63,11 +62,11 @@ pub record Decoding (c : Call) (end : BitPos) (n : ℕ) : Type 0 where
   pub last : Progress
   pub demand : Demand3 (table c) (working_of (table c)) (received c) (length (was c)) spans last
   -- the end and the count answered are theirs
-  pub ends : decoded.Ended last.at (unskipped_in (table c) spans) ≡ decoded.Ended end n
+  pub ends : ended_at last.at (unskipped_in (table c) spans) ≡ ended_at end n
   -- the run holds their readings, and after them what it held
   pub holds : out c ≡ entries_of (readings (table c) (payload_of (working_of (table c) (received c))) spans) (was c)
 
-pub decode-demand-3 : (c : Call) (end : BitPos) (n : ℕ) → c.answer ≡ decoded.Ended end n → Decoding c end n
+pub decode-demand-3 : (c : Call) (end : BitPos) (n : ℕ) → c.answer ≡ ended_at end n → Decoding c end n
 decode-demand-3 c end n e =
     let t = table c in
     let p = c.meets in
@@ -82,7 +81,7 @@ decode-demand-3 c end n e =
     }
 
 -- with room for 1,785 readings 9 is never answered
-pub decode-enough : (c : Call) → room_enough_lem ≤ length (was c) → (i n : ℕ) → c.answer ≡ decoded.Refused (NoRoom i) n → ⊥
+pub decode-enough : (c : Call) → room_enough_lem ≤ length (was c) → (i n : ℕ) → c.answer ≡ refused_with (NoRoom i) n → ⊥
 decode-enough c l i n e = enough-room (table c) (received c) c.args.1.1.0.now (length (was c)) l i n (sym c.meets.0 ∙ e)
 
 -- ## Two calls
@@ -121,7 +120,7 @@ alike c c' v x k f =
     ∙ ap (λ (n : ℕ). f (table c) (written (received c) v.start.0 v.bits.0 x) n (length (was c'))) k.same-padding
     ∙ ap (λ (n : ℕ). f (table c) (written (received c) v.start.0 v.bits.0 x) (padding c) n) k.same-room
 
-pub decode-changed : (c c' : Call) (end : BitPos) (n : ℕ) → c.answer ≡ decoded.Ended end n → (v : Span) (x : ℕ) → Changes c c' v x → Alike c c' v x
+pub decode-changed : (c c' : Call) (end : BitPos) (n : ℕ) → c.answer ≡ ended_at end n → (v : Span) (x : ℕ) → Changes c c' v x → Alike c c' v x
 decode-changed c c' end n e v x k =
     let t = table c in
     let pad = padding c in

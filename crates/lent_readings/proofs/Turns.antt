@@ -5,8 +5,8 @@ use mathlib.Core.Bool.{Bool, true, false}
 use mathlib.Core.List.{List, [], ◌∷◌, ◌++◌, append-nil}
 use Prim.Native.Nat.{ℕ, suc, ◌<◌}
 use native.Mathlib.Omega.{arith}
-use lib.ListN.{length, set}
 use Rattle.std.specs.Prelude.{Result, Ok, Err}
+use lib.ListN.{length, set}
 use Rattle.bits.specs.Bits.{pick}
 use Rattle.tables.specs.Table.{Table}
 use Rattle.fields.specs.declared.DecodeRefusal.{DecodeRefusal}
@@ -154,8 +154,8 @@ module _ {X : Type 0} (K : Kind X) (t : Table) (received pad₀ : List ℕ) (ys 
       (refl, ap kept (sym (after.last o)) ∙ ap (λ (q : Result (Unit {0}) DecodeRefusal). kept (read_into q t p room)) (sym ok)),
     )
 
-    goes : (a : Answer) → n.answer ≡ a → Left c so_far (answered_by a n.walk made) padding
-    goes (answer.Met r) e = record {
+    goes : (a : Result Answer DecodeRefusal) → n.answer ≡ a → Left c so_far (answered_by a n.walk made) padding
+    goes (Ok (answer.Met r)) e = record {
       inside = λ _. met-room t p room c.walk r e;
       stored = λ _.
           let y = after.on (ap goes_on_lem e) in
@@ -163,16 +163,16 @@ module _ {X : Type 0} (K : Kind X) (t : Table) (received pad₀ : List ℕ) (ys 
           let l : length (readings t p g.done) < room = subst (λ (k : ℕ). k < room) m (met-room t p room c.walk r e) in (
             later refl ok y.still refl (
                 ap (λ (k : ℕ). set so_far k (K.one r)) m ∙ kept_more (readings t p g.done) r l
-                ∙ ap kept (sym (y.hands ∙ ap (λ (x : Answer). readings t p g.done ++ handed x) e))),
+                ∙ ap kept (sym (y.hands ∙ ap (λ (x : Result Answer DecodeRefusal). readings t p g.done ++ handed x) e))),
             lighter _ y.less,
           );
       went = λ h. not-false h;
       ends = λ h. not-false h;
     }
-    goes (answer.Skipped v) e = record { inside = λ h. not-true h; stored = λ h. not-true h; went = λ _ _. quiet (ap goes_on_lem e) (ap handed e); ends = λ _ h. not-true h }
-    goes answer.Moved e = record { inside = λ h. not-true h; stored = λ h. not-true h; went = λ _ _. quiet (ap goes_on_lem e) (ap handed e); ends = λ _ h. not-true h }
-    goes answer.Ended e = record { inside = λ h. not-true h; stored = λ h. not-true h; went = λ _ h. not-false h; ends = λ _ _. last _ (ap goes_on_lem e) (after.ends e) }
-    goes (answer.Refused x) e = record { inside = λ h. not-true h; stored = λ h. not-true h; went = λ _ h. not-false h; ends = λ _ _. last _ (ap goes_on_lem e) (after.stops x e) }
+    goes (Ok (answer.Skipped v)) e = record { inside = λ h. not-true h; stored = λ h. not-true h; went = λ _ _. quiet (ap goes_on_lem e) (ap handed e); ends = λ _ h. not-true h }
+    goes (Ok answer.Moved) e = record { inside = λ h. not-true h; stored = λ h. not-true h; went = λ _ _. quiet (ap goes_on_lem e) (ap handed e); ends = λ _ h. not-true h }
+    goes (Ok answer.Ended) e = record { inside = λ h. not-true h; stored = λ h. not-true h; went = λ _ h. not-false h; ends = λ _ _. last _ (ap goes_on_lem e) (after.ends e) }
+    goes (Err x) e = record { inside = λ h. not-true h; stored = λ h. not-true h; went = λ _ h. not-false h; ends = λ _ _. last _ (ap goes_on_lem e) (after.stops x e) }
 
     stepped : step_of t received padding room c ≡ answered_by n.answer n.walk made
     stepped = rw f (ap (λ (l : List ℕ). turned_by_lem (next_of t (payload_of l) room c.walk) made) (picked-working t received pad₀ ok))

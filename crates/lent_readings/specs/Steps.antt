@@ -14,8 +14,8 @@ use Rattle.reading.specs.declared.Answer.{Answer}
 use Rattle.reading.specs.declared.Answer.TheVariants as answer
 use Rattle.reading.specs.declared.Next.{Next}
 use Rattle.reading.specs.declared.Decoded.{Decoded}
-use Rattle.reading.specs.declared.Decoded.TheVariants as decoded
 use Rattle.reading.specs.Filling.{picked_of, prepared_of, run_after}
+use Rattle.reading.specs.Decode.{ended_at, refused_with}
 use Rattle.reading.specs.Steps.{next_of, start_of}
 use Rattle.lent_readings.specs.declared.Step.{Step}
 
@@ -25,15 +25,15 @@ blank = record { field = 0; element = None; start = bits 0; bits = bits 0; raw =
 
 -- before the first turn
 abbrev pub fresh_step : Step
-fresh_step = record { stores = false; over = false; fresh = true; place = 0; reading = blank; walk = start_of; decoded = decoded.Ended (bits 0) 0 }
+fresh_step = record { stores = false; over = false; fresh = true; place = 0; reading = blank; walk = start_of; decoded = ended_at (bits 0) 0 }
 
 -- the walk goes on
 abbrev pub on_step : Walk → Step
-on_step w = record { stores = false; over = false; fresh = false; place = 0; reading = blank; walk = w; decoded = decoded.Ended (bits 0) 0 }
+on_step w = record { stores = false; over = false; fresh = false; place = 0; reading = blank; walk = w; decoded = ended_at (bits 0) 0 }
 
 -- .. once the reading is stored
 abbrev pub storing_step : ℕ → Reading → Walk → Step
-storing_step n r w = record { stores = true; over = false; fresh = false; place = n; reading = r; walk = w; decoded = decoded.Ended (bits 0) 0 }
+storing_step n r w = record { stores = true; over = false; fresh = false; place = n; reading = r; walk = w; decoded = ended_at (bits 0) 0 }
 
 -- the decode is over
 abbrev pub over_step : Decoded → Step
@@ -41,15 +41,15 @@ over_step d = record { stores = false; over = true; fresh = false; place = 0; re
 
 abbrev pub begun_by : Result (Unit {0}) DecodeRefusal → Step
 begun_by (Ok tt) = on_step start_of
-begun_by (Err e) = over_step (decoded.Refused e 0)
+begun_by (Err e) = over_step (refused_with e 0)
 
 -- by what a turn answered that leads to the walk w, where `made` readings had been made
-abbrev pub answered_by : Answer → Walk → ℕ → Step
-answered_by (answer.Met r) w made = storing_step made r w
-answered_by (answer.Skipped v) w made = on_step w
-answered_by answer.Moved w made = on_step w
-answered_by answer.Ended w made = over_step (decoded.Ended w.progress.at w.progress.made)
-answered_by (answer.Refused e) w made = over_step (decoded.Refused e w.progress.made)
+abbrev pub answered_by : Result Answer DecodeRefusal → Walk → ℕ → Step
+answered_by (Ok (answer.Met r)) w made = storing_step made r w
+answered_by (Ok (answer.Skipped v)) w made = on_step w
+answered_by (Ok answer.Moved) w made = on_step w
+answered_by (Ok answer.Ended) w made = over_step (ended_at w.progress.at w.progress.made)
+answered_by (Err e) w made = over_step (refused_with e w.progress.made)
 
 abbrev pub turned_by_lem : Next → ℕ → Step
 turned_by_lem n made = answered_by n.answer n.walk made

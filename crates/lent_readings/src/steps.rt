@@ -1,7 +1,7 @@
 // One turn of a decode.
 ghost use Rattle.std.specs.Prelude.{◌≡◌};
 ghost use Rattle.bits.specs.Calls.{bits};
-ghost use Rattle.reading.specs.declared.Decoded.TheVariants as decoded;
+ghost use Rattle.reading.specs.Decode.{ended_at};
 ghost use Rattle.lent_readings.specs.Steps.{blank, fresh_step, on_step, storing_step, over_step, begun_by, turned_by_lem};
 ghost use Rattle.lent_readings.specs.Clauses.{Turns};
 
@@ -28,10 +28,10 @@ fn no_reading() -> Reading
 
 // What stands where there is no answer yet.
 fn no_answer() -> Decoded
-    ensures { result ≡ decoded.Ended (bits 0) 0 }
+    ensures { result ≡ ended_at (bits 0) 0 }
 {
-    Decoded::Ended {
-        end: BitPos(0),
+    Decoded {
+        end: Ok(BitPos(0)),
         count: 0,
     }
 }
@@ -100,7 +100,10 @@ fn begun(prepared: Result<(), DecodeRefusal>) -> Step
 {
     match prepared {
         Ok(()) => on(reading::start()),
-        Err(refusal) => over(Decoded::Refused { refusal, count: 0 }),
+        Err(refusal) => over(Decoded {
+            end: Err(refusal),
+            count: 0,
+        }),
     }
 }
 
@@ -108,17 +111,20 @@ fn begun(prepared: Result<(), DecodeRefusal>) -> Step
 fn turned(next: Next, made: usize) -> Step
     ensures { result ≡ turned_by_lem next made }
 {
-    let answer = next.answer;
     let walk = next.walk;
     let progress = walk.progress;
-    let end = progress.at;
     let count = progress.made;
-    match answer {
-        Answer::Met(reading) => storing(made, reading, walk),
-        Answer::Skipped(_) => on(walk),
-        Answer::Moved => on(walk),
-        Answer::Ended => over(Decoded::Ended { end, count }),
-        Answer::Refused(refusal) => over(Decoded::Refused { refusal, count }),
+    match next.answer {
+        Ok(Answer::Met(reading)) => storing(made, reading, walk),
+        Ok(Answer::Skipped(_) | Answer::Moved) => on(walk),
+        Ok(Answer::Ended) => over(Decoded {
+            end: Ok(progress.at),
+            count,
+        }),
+        Err(refusal) => over(Decoded {
+            end: Err(refusal),
+            count,
+        }),
     }
 }
 

@@ -21,9 +21,8 @@ use Rattle.tables.specs.Table.{Table, table_of}
 use Rattle.tables.specs.Check.{payload_max}
 use Rattle.fields.specs.Payload.{payload_of}
 use Rattle.reading.specs.declared.Reading.{Reading}
-use Rattle.reading.specs.declared.Decoded.TheVariants as decoded
 use Rattle.reading.specs.Filling.{working_of}
-use Rattle.reading.specs.Decode.{readings, readings_of, decoded_of_lem}
+use Rattle.reading.specs.Decode.{readings, readings_of, decoded_of_lem, ended_at}
 use Rattle.reading.specs.Demand3.{unskipped_in, room_enough_lem}
 use Rattle.lent_readings.specs.Run.{entries_of}
 use Rattle.lent_readings.proofs.OneAnswer.{Decode}
@@ -62,7 +61,7 @@ all_held vs h j = go (ltb j (length vs)) _ (held_at vs h _)
 pub then-decoded : (κs : Lfts 4) (a : Args decode.signature κs) (x : Res decode.signature κs) (s : AtExit decode.ended κs) → Decode κs a x s
     → (t : Table) (vs : List PgnValue) (lent buffer : List ℕ) (n : ℕ) (r : ReadsBack t (values_of vs) lent buffer n)
     → table_of a.0.now ≡ t → a.1.0.now ≡ take n (buffer_after t (values_of vs) lent buffer) → length a.1.1.0.now ≡ payload_max → room_enough_lem ≤ length a.1.1.1.0.now
-    → (x ≡ decoded.Ended r.end.at (unskipped_in t (spans_in r.marks)))
+    → (x ≡ ended_at r.end.at (unskipped_in t (spans_in r.marks)))
     × (s.1.1.1.0.now ≡ entries_of (readings t (payload_of (working_of t a.1.0.now)) (spans_in r.marks)) a.1.1.1.0.now)
 then-decoded κs a x s p t vs lent buffer n r same got run room =
     let was = a.1.1.1.0.now in

@@ -25,8 +25,7 @@ use Rattle.fields.specs.declared.DecodeRefusal.{DecodeRefusal}
 use Rattle.fields.specs.declared.DecodeRefusal.TheVariants.{WrongLength, NoRoom}
 use Rattle.fields.specs.Payload.{payload_of}
 use Rattle.reading.specs.Filling.{working_of, by_check, prepared_of}
-use Rattle.reading.specs.declared.Decoded.TheVariants as decoded
-use Rattle.reading.specs.Decode.{read_into, decoded_in, decoded_of_lem}
+use Rattle.reading.specs.Decode.{read_into, decoded_in, decoded_of_lem, refused_with}
 use Rattle.reading.specs.Demand3.{room_enough_lem}
 use Rattle.reading.proofs.Answered.{enough-room}
 use Rattle.frames.specs.Lines.{Parsed, malformed, parsed, line_of}
@@ -151,5 +150,5 @@ exact buffer input room small =
 -- ## Room
 
 -- with the room that the program has, no decode by a built-in message gives 9
-pub never-full : (m : Message) (payload : List ℕ) (i n : ℕ) → decoded_of_lem (table_of (words_of m)) payload payload_max room_enough_lem ≡ decoded.Refused (NoRoom i) n → ⊥
+pub never-full : (m : Message) (payload : List ℕ) (i n : ℕ) → decoded_of_lem (table_of (words_of m)) payload payload_max room_enough_lem ≡ refused_with (NoRoom i) n → ⊥
 never-full m payload i n h = enough-room (table_of (words_of m)) payload (replicate payload_max 0) room_enough_lem (omega arith) i n (ap (λ (k : ℕ). decoded_of_lem (table_of (words_of m)) payload k room_enough_lem) (length-replicate {A = ℕ} payload_max 0) ∙ h)

@@ -8,3 +8,5 @@ mod Fields
 mod Sizes
 -- any list of calls: all that is printed, and that no answer waits for room forever
 mod Stream
+-- no reading has no line
+pub mod Quiet

@@ -6,15 +6,16 @@ use Prim.Native.Nat.{ℕ}
 use borrow.Author.Tests.{eq-eqb}
 use lib.ListN.{length, get_or}
 use lib.Dec.{eqb}
+use Rattle.std.specs.Prelude.{Result, Ok, Err}
+use Rattle.bits.specs.declared.BitPos.{BitPos}
 use Rattle.tables.specs.Table.{Table}
 use Rattle.fields.specs.declared.DecodeRefusal.{DecodeRefusal}
 use Rattle.fields.specs.Refusals.{number_of, carried_of}
 use Rattle.reading.specs.declared.Decoded.{Decoded}
-use Rattle.reading.specs.declared.Decoded.TheVariants.{Ended, Refused}
 use Rattle.reading.specs.Filling.{run_after}
 use Rattle.reading.specs.Decode.{readings_of, decoded_of_lem}
 use Rattle.readcalls.specs.Lines.{reading_line, last_line_lem, run_line, decode_text}
-use Rattle.readcalls.specs.Alike.{alike_at, alike, is_refusal_lem, is_same_lem, difference_text}
+use Rattle.readcalls.specs.Alike.{alike_at, alike, is_one_end_lem, is_same_lem, difference_text}
 
 -- ## The test
 
@@ -25,18 +26,18 @@ pub alike-by : (a b : DecodeRefusal) {m n k l : ℕ} {x y z : Bool} → m ≡ nu
     → x ≡ alike_at a b 0 → y ≡ alike_at a b 1 → z ≡ alike_at a b 2 → (eqb m n && eqb k l && x && y && z) ≡ alike a b
 alike-by a b e f g h i j k = rw (e, f, g, h, i, j, k)
 
-pub refused-by : {d : Decoded} {f : DecodeRefusal} {n : ℕ} (e : DecodeRefusal) (made : ℕ) → d ≡ Refused f n → {t : Bool} → t ≡ alike f e → (eqb n made && t) ≡ is_refusal_lem d e made
-refused-by e made g h = rw (g, h)
-
 itself : (n : ℕ) → eqb n n ≡ true
 itself n = eq-eqb n n refl
 
 alike-itself : (e : DecodeRefusal) → alike e e ≡ true
 alike-itself e = rw (itself (number_of e), itself (length (carried_of e)), itself (get_or (carried_of e) 0 0), itself (get_or (carried_of e) 1 0), itself (get_or (carried_of e) 2 0))
 
+one-end-itself : (o : Result BitPos DecodeRefusal) → is_one_end_lem o o ≡ true
+one-end-itself (Ok end) = itself end.0
+one-end-itself (Err e) = alike-itself e
+
 same-itself : (d : Decoded) → is_same_lem d d ≡ true
-same-itself (Ended end count) = rw (itself end.0, itself count)
-same-itself (Refused e count) = rw (itself count, alike-itself e)
+same-itself d = rw (itself d.count, one-end-itself d.end)
 
 -- ## The text
 

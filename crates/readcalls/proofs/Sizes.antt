@@ -9,6 +9,8 @@ use lib.Dec.{eqb, leb}
 use lib.ListN.{length, drop, replicate, length-append, length-drop, length-replicate}
 use Rattle.std.specs.Prelude.{Result, Ok, Err, Option, Some, None}
 use Rattle.bits.specs.Bits.{pick}
+use Rattle.bits.specs.declared.BitPos.{BitPos}
+use Rattle.fields.specs.declared.DecodeRefusal.{DecodeRefusal}
 use Rattle.hexadecimal.proofs.Inverse.{length_digits}
 use Rattle.text.specs.Digits.{spaced, bytes_text}
 use Rattle.text.specs.Refusals.{malformed_text}
@@ -21,11 +23,8 @@ use Rattle.descriptor.specs.declared.PgnValue.{PgnValue}
 use Rattle.descriptor.specs.declared.PgnValue.TheVariants.{U64, U32, U16, U8, I64, I32, I16, I8, F64, F32, Bytes}
 use Rattle.numbers.specs.Words.{word_of_lem}
 use Rattle.tables.specs.Table.{Table, table_of}
-use Rattle.fields.specs.declared.DecodeRefusal.{DecodeRefusal}
 use Rattle.fields.specs.Payload.{payload_of}
 use Rattle.reading.specs.declared.Reading.{Reading}
-use Rattle.reading.specs.declared.Decoded.{Decoded}
-use Rattle.reading.specs.declared.Decoded.TheVariants as decoded
 use Rattle.reading.specs.Filling.{fills, working_of, padded_of, prepared_of, kept_unless, run_after}
 use Rattle.reading.specs.Decode.{read_into, readings_of, decoded_of_lem}
 use Rattle.reading.specs.Demand3.{room_enough_lem}
@@ -33,7 +32,7 @@ use Rattle.reading.proofs.Working.{ready-accepted, working-le}
 use Rattle.reading.proofs.Roomy.{few-readings}
 use Rattle.frame_lines.specs.Lines.{newline, head_text, place_text}
 use Rattle.frame_lines.proofs.Sizes.{value-size, head-size, refusal-size, texts-size}
-use Rattle.readcalls.specs.Lines.{raw_text, kind_text, encoding_text, content_text, reading_line, last_line_lem, untouched, touched, run_line, decode_text}
+use Rattle.readcalls.specs.Lines.{raw_text, kind_text, encoding_text, content_text, reading_line, last_line_by, last_line_lem, untouched, touched, run_line, decode_text}
 use Rattle.readcalls.specs.Answers.{padding_max, words_max, comma, payload_most, is_case_lem, case_text, answered}
 use Rattle.readcalls.proofs.Touching.{touched-size}
 
@@ -87,12 +86,12 @@ reading-size r =
 
 -- ## The other lines
 
-last-size : (d : Decoded) → length (last_line_lem d) ≤ 130
-unfolding last_line_lem
-last-size (decoded.Ended end count) =
+last-size : (o : Result BitPos DecodeRefusal) (count : ℕ) → length (last_line_by o count) ≤ 130
+unfolding last_line_by
+last-size (Ok end) count =
     let a : length (spaced end.0 ++ spaced count) ≤ 42 = plus (spaced end.0) (spaced count) 21 21 (spaced-size end.0) (spaced-size count) in
     omega (arith, plus (spaced end.0 ++ spaced count) newline 42 1 a (omega arith))
-last-size (decoded.Refused e count) = refusal-size e
+last-size (Err e) count = refusal-size e
 
 run-line-size : (run : List ℕ) → length (run_line run) ≤ 4 + 2 * length run
 unfolding run_line
@@ -133,7 +132,7 @@ module _ (t : Table) (received run : List ℕ) (room : ℕ) where
       let d = decoded_of_lem t received (length run) room in
       let many : length (flat_map reading_line rs) ≤ 285600 = omega (arith, texts-size reading_line 160 reading-size rs, few) in
       let last : length (run_line (run_after t received run)) ≤ 1050 = omega (arith, run-line-size (run_after t received run), after-size, l) in
-      let rest : length (last_line_lem d ++ run_line (run_after t received run)) ≤ 1180 = plus (last_line_lem d) (run_line (run_after t received run)) 130 1050 (last-size d) last in
+      let rest : length (last_line_lem d ++ run_line (run_after t received run)) ≤ 1180 = plus (last_line_lem d) (run_line (run_after t received run)) 130 1050 (last-size d.end d.count) last in
       plus (flat_map reading_line rs) (last_line_lem d ++ run_line (run_after t received run)) 285600 1180 many rest
 
 -- ## A line

@@ -1,16 +1,17 @@
 -- The lines of an answer: src/main.rt, "R FIELD ELEMENT START BITS A|N RAW KIND VALUE [ENCODING]", "E END COUNT", "D BYTES". Each ends in a newline.
-use Rattle.std.specs.Prelude.{ℕ, eqb, length, Option, Some, None}
+use Rattle.std.specs.Prelude.{ℕ, eqb, length, Option, Some, None, Result, Ok, Err}
 use mathlib.Core.List.{List, [], ◌∷◌, ◌++◌, flat_map}
 use Rattle.bits.specs.Bits.{pick}
+use Rattle.bits.specs.declared.BitPos.{BitPos}
 use Rattle.hexadecimal.specs.Digits.{digits_of}
 use Rattle.text.specs.Digits.{hex_of, spaced, spaced_hex, bytes_text}
 use Rattle.descriptor.specs.declared.PgnValue.{PgnValue}
 use Rattle.descriptor.specs.declared.PgnValue.TheVariants.{U64, U32, U16, U8, I64, I32, I16, I8, F64, F32, Bytes}
 use Rattle.numbers.specs.Words.{word_of_lem}
 use Rattle.tables.specs.Table.{Table}
+use Rattle.fields.specs.declared.DecodeRefusal.{DecodeRefusal}
 use Rattle.reading.specs.declared.Reading.{Reading}
 use Rattle.reading.specs.declared.Decoded.{Decoded}
-use Rattle.reading.specs.declared.Decoded.TheVariants as decoded
 use Rattle.reading.specs.Filling.{run_after}
 use Rattle.reading.specs.Decode.{readings_of, decoded_of_lem}
 use Rattle.frame_lines.specs.Lines.{newline, head_text, place_text, refusal_line}
@@ -62,9 +63,12 @@ reading_line r = head_text r ++ raw_text r.raw ++ kind_text r.value ++ content_t
 -- ## The other lines
 
 -- "E END COUNT", or "F NUMBER CARRIED.."
-unfoldable pub last_line_lem : Decoded → List ℕ
-last_line_lem (decoded.Ended end count) = 69 ∷ spaced end.0 ++ spaced count ++ newline
-last_line_lem (decoded.Refused e count) = refusal_line e
+unfoldable pub last_line_by : Result BitPos DecodeRefusal → ℕ → List ℕ
+last_line_by (Ok end) count = 69 ∷ spaced end.0 ++ spaced count ++ newline
+last_line_by (Err e) count = refusal_line e
+
+abbrev pub last_line_lem : Decoded → List ℕ
+last_line_lem d = last_line_by d.end d.count
 
 -- what each byte of a padding run holds before the call
 abbrev pub untouched : ℕ

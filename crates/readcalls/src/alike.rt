@@ -2,8 +2,9 @@
 // the line X would say that the compiled code is not what was proved.
 ghost use Rattle.std.specs.Prelude.{◌≡◌};
 ghost use Rattle.text.specs.Sheet.{Puts};
-ghost use Rattle.readcalls.specs.Alike.{alike_at, alike, is_end_lem, is_refusal_lem, is_same_lem, difference_text};
+ghost use Rattle.readcalls.specs.Alike.{alike_at, alike, is_one_end_lem, is_same_lem, difference_text};
 
+use bits::BitPos;
 use fields::DecodeRefusal;
 use reading::Decoded;
 
@@ -25,34 +26,20 @@ fn is_alike(a: DecodeRefusal, b: DecodeRefusal) -> bool
     number & count & first & second & third
 }
 
-fn is_end(d: Decoded, at: usize, made: usize) -> bool
-    ensures { result ≡ is_end_lem d at made }
+fn is_one_end(a: Result<BitPos, DecodeRefusal>, b: Result<BitPos, DecodeRefusal>) -> bool
+    ensures { result ≡ is_one_end_lem a b }
 {
-    match d {
-        Decoded::Ended { end, count } => (end.0 == at) & (count == made),
-        Decoded::Refused {
-            refusal: _,
-            count: _,
-        } => false,
-    }
-}
-
-fn is_refusal(d: Decoded, e: DecodeRefusal, made: usize) -> bool
-    ensures { result ≡ is_refusal_lem d e made }
-{
-    match d {
-        Decoded::Ended { end: _, count: _ } => false,
-        Decoded::Refused { refusal, count } => (count == made) & is_alike(refusal, e),
+    match (a, b) {
+        (Ok(x), Ok(y)) => x.0 == y.0,
+        (Err(e), Err(f)) => is_alike(e, f),
+        _ => false,
     }
 }
 
 pub(crate) fn is_same(a: Decoded, b: Decoded) -> bool
     ensures { result ≡ is_same_lem a b }
 {
-    match a {
-        Decoded::Ended { end, count } => is_end(b, end.0, count),
-        Decoded::Refused { refusal, count } => is_refusal(b, refusal, count),
-    }
+    (a.count == b.count) & is_one_end(a.end, b.end)
 }
 
 // The line that never comes.

@@ -83,14 +83,14 @@ pub(crate) fn put_reading(out: &mut [u8], at: usize, r: Reading) -> usize
 pub(crate) fn put_decoded(out: &mut [u8], at: usize, d: Decoded) -> usize
     ensures { Puts out.old at (last_line_lem d) out.new result }
 {
-    match d {
-        Decoded::Ended { end, count } => {
+    match d.end {
+        Ok(end) => {
             let a = put(out, at, b'E');
             let b = put_number(out, a, end.0);
-            let c = put_number(out, b, count);
+            let c = put_number(out, b, d.count);
             put(out, c, b'\n')
         }
-        Decoded::Refused { refusal, count: _ } => frame_lines::put_refusal(out, at, refusal),
+        Err(refusal) => frame_lines::put_refusal(out, at, refusal),
     }
 }
 

@@ -9,7 +9,8 @@ ghost use Rattle.readcalls.specs.Lines.{reading_line};
 ghost use Rattle.readcalls.specs.Clauses.{Walks, Turns};
 
 use crate::answers::put_reading;
-use reading::{Answer, Came, Decoded};
+use reading::{Answer, Decoded};
+use fields::DecodeRefusal;
 
 // What the turns came to, and the place after the readings' lines.
 #[derive(Clone, Copy)]
@@ -19,15 +20,13 @@ pub(crate) struct Turned {
 }
 
 // The line of the reading that a turn hands out, if it does.
-fn put_turn(out: &mut [u8], at: usize, answer: Answer) -> usize
+#[tactic(auto, using(crate::proofs::Quiet::quiet))]
+fn put_turn(out: &mut [u8], at: usize, answer: Result<Answer, DecodeRefusal>) -> usize
     ensures { Puts out.old at (flat_map reading_line (handed answer)) out.new result }
 {
     match answer {
-        Answer::Met(reading) => put_reading(out, at, reading),
-        Answer::Skipped(_) => at,
-        Answer::Moved => at,
-        Answer::Ended => at,
-        Answer::Refused(_) => at,
+        Ok(Answer::Met(reading)) => put_reading(out, at, reading),
+        Ok(Answer::Skipped(_) | Answer::Moved | Answer::Ended) | Err(_) => at,
     }
 }
 
@@ -40,17 +39,11 @@ fn put_walk(words: &[u64], s: &[u8], room: usize, out: &mut [u8], at: usize) -> 
     let mut to = at;
     loop {
         let next = reading::next_field(words, s, room, walk);
-        let answer = next.answer;
-        let after = next.walk;
-        to = put_turn(out, to, answer);
-        match reading::came_to(next) {
-            Came::On => {
-                walk = after;
-            }
-            Came::To(decoded) => {
-                return Turned { to, decoded };
-            }
+        to = put_turn(out, to, next.answer);
+        if let Some(decoded) = reading::came_to(next) {
+            return Turned { to, decoded };
         }
+        walk = next.walk;
     }
 }
 
@@ -72,7 +65,10 @@ pub(crate) fn put_turns(
         }
         Err(refusal) => Turned {
             to: at,
-            decoded: Decoded::Refused { refusal, count: 0 },
+            decoded: Decoded {
+                end: Err(refusal),
+                count: 0,
+            },
         },
     }
 }

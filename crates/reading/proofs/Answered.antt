@@ -27,13 +27,12 @@ use Rattle.fields.specs.Taken.{short_of, room_at, taken_by}
 use Rattle.reading.specs.declared.Span.{Span}
 use Rattle.reading.specs.declared.Reading.{Reading}
 use Rattle.reading.specs.declared.Progress.{Progress}
-use Rattle.reading.specs.declared.Decoded.TheVariants as decoded
 use Rattle.reading.specs.declared.Walk.{Walk}
-use Rattle.reading.specs.declared.Answer.TheVariants as answer
 use Rattle.reading.specs.Filling.{working_of, prepared_of}
-use Rattle.reading.specs.Decode.{walk_of, reading_of, readings, spans_of, end_of, decoded_in, decoded_of_lem, read_into, readings_of}
+use Rattle.reading.specs.Decode.{walk_of, reading_of, readings, spans_of, end_of, decoded_in, decoded_of_lem, read_into, readings_of, ended_at, refused_with}
 use Rattle.reading.specs.Steps.{start_of, next_of, handed_in}
 use Rattle.reading.specs.Demand3.{unskipped_in, Free, span_in, room_enough_lem}
+use Rattle.reading.proofs.Ending.{not-both, same-refusal}
 use Rattle.reading.proofs.Working.{readied, working-le}
 use Rattle.reading.proofs.Looped.{Going, turned, handed_out}
 use Rattle.reading.proofs.Roomy.{count-unskipped, never-full, never-prepared}
@@ -52,22 +51,22 @@ module _ (t : Table) (received : List ℕ) (padded room : ℕ) where
   working = payload_of (working_of t received)
 
   -- an end is answered where it decodes: the end that the spans come to, and the number of fields met that are not skipped
-  pub answers : (vs : List Span) (s : Progress) → Decodes t received padded room vs s → decoded_of_lem t received padded room ≡ decoded.Ended s.at (unskipped_in t vs)
+  pub answers : (vs : List Span) (s : Progress) → Decodes t received padded room vs s → decoded_of_lem t received padded room ≡ ended_at s.at (unskipped_in t vs)
   answers vs s d =
-      ap (λ (q : Result (Unit {0}) DecodeRefusal). decoded_in q t working room) d.ready ∙ ap (end_of t working) d.run ∙ ap (decoded.Ended s.at) (count-unskipped t working vs)
+      ap (λ (q : Result (Unit {0}) DecodeRefusal). decoded_in q t working room) d.ready ∙ ap (end_of t working) d.run ∙ ap (ended_at s.at) (count-unskipped t working vs)
 
   by-run : (end : BitPos) (n : ℕ) → prepared_of t (length received) padded ≡ Ok tt → (w : Run Span Progress DecodeRefusal) → walk_of t working room ≡ w
-      → end_of t working w ≡ decoded.Ended end n → (vs : List Span) × (s : Progress) × Decodes t received padded room vs s
+      → end_of t working w ≡ ended_at end n → (vs : List Span) × (s : Progress) × Decodes t received padded room vs s
   by-run end n q (ran vs s) w e = (vs, s, record { ready = q; run = w })
-  by-run end n q (stopped vs f) w e = let z : ◌≡◌ {A = ℕ} 0 1 = cc in absurd (omega arith)
+  by-run end n q (stopped vs f) w e = not-both (sym e)
 
-  by-prepared : (end : BitPos) (n : ℕ) (q : Result (Unit {0}) DecodeRefusal) → prepared_of t (length received) padded ≡ q → decoded_in q t working room ≡ decoded.Ended end n
+  by-prepared : (end : BitPos) (n : ℕ) (q : Result (Unit {0}) DecodeRefusal) → prepared_of t (length received) padded ≡ q → decoded_in q t working room ≡ ended_at end n
       → (vs : List Span) × (s : Progress) × Decodes t received padded room vs s
   by-prepared end n (Ok tt) q e = by-run end n q (walk_of t working room) refl e
-  by-prepared end n (Err x) q e = let z : ◌≡◌ {A = ℕ} 0 1 = cc in absurd (omega arith)
+  by-prepared end n (Err x) q e = not-both (sym e)
 
   -- .. and nowhere else
-  pub answered : (end : BitPos) (n : ℕ) → decoded_of_lem t received padded room ≡ decoded.Ended end n → (vs : List Span) × (s : Progress) × Decodes t received padded room vs s
+  pub answered : (end : BitPos) (n : ℕ) → decoded_of_lem t received padded room ≡ ended_at end n → (vs : List Span) × (s : Progress) × Decodes t received padded room vs s
   answered end n h = by-prepared end n (prepared_of t (length received) padded) refl h
 
   pub reads : (vs : List Span) (s : Progress) → Decodes t received padded room vs s → readings_of t received padded room ≡ readings t working vs
@@ -139,22 +138,22 @@ two_runs t received padded room us v ws s d free x =
 
 -- with room for 1,785 readings 9 is never given: a payload has at most 223 bytes, and `never-full` says why one more than its bits is enough
 never-by-run : (t : Table) → check_of t ≡ Ok tt → (p : Payload) → p.size ≤ payload_max → (room : ℕ) → room_enough_lem ≤ room → (i n : ℕ) (w : Run Span Progress DecodeRefusal)
-    → walk_of t p room ≡ w → end_of t p w ≡ decoded.Refused (NoRoom i) n → ⊥
-never-by-run t ok p small room enough i n (ran vs s) w e = let z : ◌≡◌ {A = ℕ} 0 1 = cc in omega arith
+    → walk_of t p room ≡ w → end_of t p w ≡ refused_with (NoRoom i) n → ⊥
+never-by-run t ok p small room enough i n (ran vs s) w e = not-both e
 never-by-run t ok p small room enough i n (stopped vs f) w e =
-    let g : f ≡ NoRoom i = cc in
+    let g = same-refusal e in
     never-full t ok p room (omega arith) vs i (w ∙ ap (stopped vs) g)
 
 module _ (t : Table) (received padded : List ℕ) (room : ℕ) (enough : room_enough_lem ≤ room) (i n : ℕ) where
-  full-by-prepared : (q : Result (Unit {0}) DecodeRefusal) → prepared_of t (length received) (length padded) ≡ q → decoded_in q t (payload_of (working_of t received)) room ≡ decoded.Refused (NoRoom i) n → ⊥
+  full-by-prepared : (q : Result (Unit {0}) DecodeRefusal) → prepared_of t (length received) (length padded) ≡ q → decoded_in q t (payload_of (working_of t received)) room ≡ refused_with (NoRoom i) n → ⊥
   full-by-prepared (Ok tt) q e =
       never-by-run t (readied t (length received) (length padded) q).table (payload_of (working_of t received)) (working-le t received padded q) room enough i n _ refl e
-  full-by-prepared (Err x) q e = let g : x ≡ NoRoom i = cc in never-prepared t (length received) (length padded) i (q ∙ ap Err g)
+  full-by-prepared (Err x) q e = let g = same-refusal e in never-prepared t (length received) (length padded) i (q ∙ ap Err g)
 
-  pub enough-room : decoded_of_lem t received (length padded) room ≡ decoded.Refused (NoRoom i) n → ⊥
+  pub enough-room : decoded_of_lem t received (length padded) room ≡ refused_with (NoRoom i) n → ⊥
   enough-room h = full-by-prepared (prepared_of t (length received) (length padded)) refl h
 
 -- nor is it by a turn, at any place of the walk from `start` on
 pub enough-turn : (t : Table) → check_of t ≡ Ok tt → (p : Payload) → p.size ≤ payload_max → (room : ℕ) → room_enough_lem ≤ room → (w : Walk) → Going t p room w → (i : ℕ)
-    → (next_of t p room w).answer ≡ answer.Refused (NoRoom i) → ⊥
+    → (next_of t p room w).answer ≡ Err (NoRoom i) → ⊥
 enough-turn t ok p small room enough w g i h = never-by-run t ok p small room enough i _ (walk_of t p room) refl ((turned t p room ok w g).stops (NoRoom i) h)

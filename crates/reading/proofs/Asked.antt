@@ -14,9 +14,8 @@ use Rattle.fields.specs.Payload.{payload_of}
 use Rattle.fields.specs.Refusals.{number_of, touches_nothing_lem}
 use Rattle.fields.proofs.Against.{Meets}
 use Rattle.fields.proofs.Asked.{Asks, asks-against, field-asks}
-use Rattle.reading.specs.declared.Decoded.TheVariants as decoded
 use Rattle.reading.specs.Filling.{working_of}
-use Rattle.reading.specs.Decode.{decoded_of_lem}
+use Rattle.reading.specs.Decode.{decoded_of_lem, refused_with}
 use Rattle.reading.proofs.Stopped.{walk-refusal, decode-refusal}
 use Rattle.reading.proofs.Given.{prepared-spares}
 
@@ -33,7 +32,7 @@ spared-asks (WrongLength n) h = tt
 spared-asks (TableRefused rule index) h = tt
 spared-asks (NoRoom i) h = tt
 
-pub decode-asks : (t : Table) (received padded : List ℕ) (room : ℕ) (f : DecodeRefusal) (n : ℕ) → decoded_of_lem t received (length padded) room ≡ decoded.Refused f n → Asks f
+pub decode-asks : (t : Table) (received padded : List ℕ) (room : ℕ) (f : DecodeRefusal) (n : ℕ) → decoded_of_lem t received (length padded) room ≡ refused_with f n → Asks f
 decode-asks t received padded room f n h =
     ⊎_elim (λ a. a) (λ q. spared-asks f (prepared-spares t (length received) (length padded) f q))
     (decode-refusal t received padded room f n Asks

@@ -21,9 +21,8 @@ use Rattle.fields.specs.Payload.{Payload}
 use Rattle.fields.specs.Refusals.{number_of, touches_nothing_lem, given_in_walk, given_by_decode}
 use Rattle.fields.proofs.Given.{Given, field-given}
 use Rattle.reading.specs.declared.Span.{Span}
-use Rattle.reading.specs.declared.Decoded.TheVariants as decoded
 use Rattle.reading.specs.Filling.{by_check, prepared_of}
-use Rattle.reading.specs.Decode.{walk_of, decoded_of_lem}
+use Rattle.reading.specs.Decode.{walk_of, decoded_of_lem, refused_with}
 use Rattle.reading.proofs.Lasts.{in_table}
 use Rattle.reading.proofs.Stopped.{walk-refusal, decode-refusal}
 
@@ -68,7 +67,7 @@ or-true true = refl
 or-true false = refl
 
 module _ (t : Table) (received padded : List ℕ) (room : ℕ) (f : DecodeRefusal) (n : ℕ) where
-  module _ (h : decoded_of_lem t received (length padded) room ≡ decoded.Refused f n) where
+  module _ (h : decoded_of_lem t received (length padded) room ≡ refused_with f n) where
     -- the walk gave it, or it was given before
     gave : Gives f ⊎ (prepared_of t (length received) (length padded) ≡ Err f)
     gave = decode-refusal t received padded room f n Gives (λ ok small vs e. walk-gives t ok _ small room vs f e) h

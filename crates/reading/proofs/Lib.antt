@@ -4,6 +4,8 @@ pub mod Working
 pub mod Counted
 -- a field that was read: its bits, raw and value are those that the definitions give it
 pub mod Told
+-- an answer has an end or a refusal, and no other one
+pub mod Ending
 -- each case of one turn comes to what `next_of` says
 pub mod Turned
 -- turn by turn, a walk comes to what decoding is, and hands out its readings

@@ -2,11 +2,11 @@
 use mathlib.Core.Path.{◌≡◌, refl, sym, ap, ap₂, ◌∙◌, subst}
 use mathlib.Core.Bool.{Bool, true, false}
 use mathlib.Core.List.{List, [], ◌∷◌, ◌++◌, append-nil, append_assoc}
+use Rattle.std.specs.Prelude.{Option, Some, None, Result, Ok, Err}
 use Prim.Native.Nat.{ℕ, zero, suc, ◌+◌, ◌*◌, ◌≤◌, ◌<◌}
 use native.Mathlib.Omega.{arith}
 use lib.ListN.{length, length-append}
 use lib.Dec.{ltb}
-use Rattle.std.specs.Prelude.{Result, Ok, Err}
 use Rattle.bits.specs.Bits.{pick}
 use Rattle.tables.specs.Table.{Table}
 use Rattle.tables.specs.Check.{check_of}
@@ -27,18 +27,15 @@ use Rattle.reading.specs.declared.Reading.{Reading}
 use Rattle.reading.specs.declared.Progress.{Progress}
 use Rattle.reading.specs.declared.Walk.{Walk}
 use Rattle.reading.specs.declared.Answer.{Answer}
-use Rattle.reading.specs.declared.Answer.TheVariants.{Met, Skipped, Moved, Ended, Refused}
+use Rattle.reading.specs.declared.Answer.TheVariants.{Met, Skipped, Moved, Ended}
 use Rattle.reading.specs.declared.Next.{Next}
 use Rattle.reading.specs.declared.Decoded.{Decoded}
-use Rattle.reading.specs.declared.Decoded.TheVariants as decoded
-use Rattle.reading.specs.declared.Came.{Came}
-use Rattle.reading.specs.declared.Came.TheVariants as came
 use Rattle.fields.specs.Payload.{Payload, payload_of}
 use Rattle.fields.specs.Shapes.{shape_of}
 use Rattle.fields.specs.Content.{field_read_of}
 use Rattle.reading.specs.Filling.{working_of, prepared_of}
 use Rattle.reading.specs.Groups.{noted_by_lem, too_many}
-use Rattle.reading.specs.Decode.{span_at, progress_at, settled, one_of, count_of, beginning, walk_of, reading_of, with_reading, readings, spans_of, end_of, read_into, readings_of}
+use Rattle.reading.specs.Decode.{span_at, progress_at, settled, one_of, count_of, beginning, walk_of, reading_of, with_reading, readings, spans_of, ended_at, refused_with, end_of, read_into, readings_of}
 use Rattle.reading.specs.Steps.{met_by, met_of, shown, turn_of, next_of, start_of, goes_on_lem, came_by, came_to_lem, handed, handed_in}
 use Rattle.reading.proofs.Told.{told, gone}
 use Rattle.reading.proofs.Working.{readied}
@@ -53,24 +50,24 @@ small t ok i k e =
 -- ## What a turn came to
 
 -- the walk goes on where it came to no answer ..
-pub came-on : (a : Answer) (s : Progress) → came_by a s ≡ came.On → goes_on_lem a ≡ true
-came-on (Met r) s h = refl
-came-on (Skipped v) s h = refl
-came-on Moved s h = refl
-came-on Ended s h = let y : ◌≡◌ {A = ℕ} 0 1 = cc in absurd (omega arith)
-came-on (Refused f) s h = let y : ◌≡◌ {A = ℕ} 0 1 = cc in absurd (omega arith)
+pub came-on : (a : Result Answer DecodeRefusal) (s : Progress) → came_by a s ≡ None → goes_on_lem a ≡ true
+came-on (Ok (Met r)) s h = refl
+came-on (Ok (Skipped v)) s h = refl
+came-on (Ok Moved) s h = refl
+came-on (Ok Ended) s h = let y : ◌≡◌ {A = ℕ} 0 1 = cc in absurd (omega arith)
+came-on (Err f) s h = let y : ◌≡◌ {A = ℕ} 0 1 = cc in absurd (omega arith)
 
 -- .. said of the turn, once code has what it came to ..
-pub goes-on : (n : Next) {m : Came} → m ≡ came_to_lem n → m ≡ came.On → goes_on_lem n.answer ≡ true
+pub goes-on : (n : Next) {m : Option Decoded} → m ≡ came_to_lem n → m ≡ None → goes_on_lem n.answer ≡ true
 goes-on n h k = came-on n.answer n.walk.progress (sym h ∙ k)
 
 -- .. and nowhere else
-pub came-last : (a : Answer) (s : Progress) (d : Decoded) → came_by a s ≡ came.To d → goes_on_lem a ≡ false
-came-last (Met r) s d h = let y : ◌≡◌ {A = ℕ} 0 1 = cc in absurd (omega arith)
-came-last (Skipped v) s d h = let y : ◌≡◌ {A = ℕ} 0 1 = cc in absurd (omega arith)
-came-last Moved s d h = let y : ◌≡◌ {A = ℕ} 0 1 = cc in absurd (omega arith)
-came-last Ended s d h = refl
-came-last (Refused f) s d h = refl
+pub came-last : (a : Result Answer DecodeRefusal) (s : Progress) (d : Decoded) → came_by a s ≡ Some d → goes_on_lem a ≡ false
+came-last (Ok (Met r)) s d h = let y : ◌≡◌ {A = ℕ} 0 1 = cc in absurd (omega arith)
+came-last (Ok (Skipped v)) s d h = let y : ◌≡◌ {A = ℕ} 0 1 = cc in absurd (omega arith)
+came-last (Ok Moved) s d h = let y : ◌≡◌ {A = ℕ} 0 1 = cc in absurd (omega arith)
+came-last (Ok Ended) s d h = refl
+came-last (Err f) s d h = refl
 
 -- ## The readings' count
 
@@ -167,10 +164,10 @@ module _ (t : Table) (p : Payload) (room : ℕ) where
   pub record Turned (w : Walk) (g : Going w) (n : Next) : Type 0 where
     pub on : goes_on_lem n.answer ≡ true → Onward w g n
     pub last : goes_on_lem n.answer ≡ false → all ≡ readings t p g.done
-    pub ends : n.answer ≡ Ended → whole ≡ decoded.Ended n.walk.progress.at n.walk.progress.made
-    pub stops : (f : DecodeRefusal) → n.answer ≡ Refused f → whole ≡ decoded.Refused f n.walk.progress.made
+    pub ends : n.answer ≡ Ok Ended → whole ≡ ended_at n.walk.progress.at n.walk.progress.made
+    pub stops : (f : DecodeRefusal) → n.answer ≡ Err f → whole ≡ refused_with f n.walk.progress.made
 
-  pub met-on : (sh : Shape) (r : Reading) (v : Span) → goes_on_lem (met_by sh r v) ≡ true
+  pub met-on : (sh : Shape) (r : Reading) (v : Span) → goes_on_lem (Ok (met_by sh r v)) ≡ true
   met-on (Number b) r v = refl
   met-on Gap r v = refl
   met-on Fixed r v = refl
@@ -179,7 +176,7 @@ module _ (t : Table) (p : Payload) (room : ℕ) where
   met-on Lz r v = refl
 
   -- a field met hands out the reading that it has
-  met-hands : (sh : Shape) (r : Reading) (v : Span) → with_reading sh r [] ≡ handed (met_by sh r v)
+  met-hands : (sh : Shape) (r : Reading) (v : Span) → with_reading sh r [] ≡ handed (Ok (met_by sh r v))
   met-hands (Number b) r v = refl
   met-hands Gap r v = refl
   met-hands Fixed r v = refl
@@ -187,7 +184,7 @@ module _ (t : Table) (p : Payload) (room : ℕ) where
   met-hands Lau r v = refl
   met-hands Lz r v = refl
 
-  pub one-hands : (v : Span) → readings t p (v ∷ []) ≡ handed (met_of t p v)
+  pub one-hands : (v : Span) → readings t p (v ∷ []) ≡ handed (Ok (met_of t p v))
   unfolding readings
   one-hands v = met-hands (shape_of (t.field v.field)) (reading_of t p v) v
 
@@ -246,7 +243,7 @@ module _ (t : Table) (p : Payload) (room : ℕ) where
       record {
         on = λ o. let y : ◌≡◌ {A = ℕ} 0 1 = cc in absurd (omega arith);
         last = λ _. ap (λ (r : Run Span Progress DecodeRefusal). readings t p (spans_of r)) run ∙ done_all w g;
-        ends = λ _. ap (end_of t p) run ∙ ap (decoded.Ended z.at) (count-done w g ∙ ap (λ (s : Progress). s.made) same);
+        ends = λ _. ap (end_of t p) run ∙ ap (ended_at z.at) (count-done w g ∙ ap (λ (s : Progress). s.made) same);
         stops = λ x o. let y : ◌≡◌ {A = ℕ} 0 1 = cc in absurd (omega arith);
       }
   turned_by w g (broke b z) e f m =
@@ -256,7 +253,7 @@ module _ (t : Table) (p : Payload) (room : ℕ) where
         on = λ o. let y : ◌≡◌ {A = ℕ} 0 1 = cc in absurd (omega arith);
         last = λ _. ap (λ (r : Run Span Progress DecodeRefusal). readings t p (spans_of r)) run ∙ done_all w g;
         ends = λ o. let y : ◌≡◌ {A = ℕ} 0 1 = cc in absurd (omega arith);
-        stops = λ x o. let is : b ≡ x = cc in ap (end_of t p) run ∙ ap₂ decoded.Refused is (count-done w g ∙ ap (λ (s : Progress). s.made) same);
+        stops = λ x o. let is : b ≡ x = cc in ap (end_of t p) run ∙ ap₂ refused_with is (count-done w g ∙ ap (λ (s : Progress). s.made) same);
       }
 
   module _ (ok : check_of t ≡ Ok tt) where
@@ -271,15 +268,15 @@ module _ (t : Table) (p : Payload) (room : ℕ) where
     leaves {w = w} g e = subst (λ (n : Next). Turned w g n) (sym e) (turned w g)
 
     -- where a turn came to an answer, that is what decoding comes to
-    pub comes-to : (w : Walk) (g : Going w) (n : Next) → Turned w g n → (d : Decoded) → came_to_lem n ≡ came.To d → whole ≡ d
+    pub comes-to : (w : Walk) (g : Going w) (n : Next) → Turned w g n → (d : Decoded) → came_to_lem n ≡ Some d → whole ≡ d
     comes-to w g n u d h = go n.answer refl h
       where
-        go : (a : Answer) → n.answer ≡ a → came_by a n.walk.progress ≡ came.To d → whole ≡ d
-        go (Met r) e k = let y : ◌≡◌ {A = ℕ} 0 1 = cc in absurd (omega arith)
-        go (Skipped v) e k = let y : ◌≡◌ {A = ℕ} 0 1 = cc in absurd (omega arith)
-        go Moved e k = let y : ◌≡◌ {A = ℕ} 0 1 = cc in absurd (omega arith)
-        go Ended e k = let y : decoded.Ended n.walk.progress.at n.walk.progress.made ≡ d = cc in u.ends e ∙ y
-        go (Refused f) e k = let y : decoded.Refused f n.walk.progress.made ≡ d = cc in u.stops f e ∙ y
+        go : (a : Result Answer DecodeRefusal) → n.answer ≡ a → came_by a n.walk.progress ≡ Some d → whole ≡ d
+        go (Ok (Met r)) e k = let y : ◌≡◌ {A = ℕ} 0 1 = cc in absurd (omega arith)
+        go (Ok (Skipped v)) e k = let y : ◌≡◌ {A = ℕ} 0 1 = cc in absurd (omega arith)
+        go (Ok Moved) e k = let y : ◌≡◌ {A = ℕ} 0 1 = cc in absurd (omega arith)
+        go (Ok Ended) e k = let y : ended_at n.walk.progress.at n.walk.progress.made ≡ d = cc in u.ends e ∙ y
+        go (Err f) e k = let y : refused_with f n.walk.progress.made ≡ d = cc in u.stops f e ∙ y
 
     -- what was handed out and what the turns still hand out are all the readings
     handed-rest : (n : ℕ) (w : Walk) (g : Going w) → heft w < n → readings t p g.done ++ handed_in t p room n w ≡ all

@@ -3,11 +3,11 @@ use mathlib.Core.Path.{◌≡◌, refl, sym, ap, ◌∙◌}
 use mathlib.Core.Bool.{Bool, true, false}
 use mathlib.Core.List.{List, [], ◌++◌}
 use Prim.Native.Nat.{ℕ, ◌+◌, ◌≤◌, ◌<◌}
+use Rattle.std.specs.Prelude.{Ok, Result, Err}
 use lib.ListN.{length, length-append}
 use native.Mathlib.Omega.{arith}
 use lib.Dec.{ltb}
 use borrow.Author.Tests.{ltb-true}
-use Rattle.std.specs.Prelude.{Result, Ok, Err}
 use Rattle.tables.specs.Table.{Table}
 use Rattle.walking.specs.Runs.{Run, ran, stopped}
 use Rattle.walking.specs.Walk.{One, hit, check, walk_from, Element}
@@ -62,14 +62,14 @@ module _ (t : Table) (p : Payload) (room : ℕ) where
   abbrev one : ℕ → Element → Bool → Progress → One Span Progress DecodeRefusal
   one = one_of t p room
 
-  by_turn : (w : Walk) (r : Reading) (x : Turn Span Progress DecodeRefusal) → Meets t one (count_of t p) too_many Seated seated w.progress x → (shown t p w.spot x).answer ≡ Met r
+  by_turn : (w : Walk) (r : Reading) (x : Turn Span Progress DecodeRefusal) → Meets t one (count_of t p) too_many Seated seated w.progress x → (shown t p w.spot x).answer ≡ Ok (Met r)
       → w.progress.made < room
   by_turn w r (moved q z) m h = let y : ◌≡◌ {A = ℕ} 0 1 = cc in absurd (omega arith)
-  by_turn w r (met v q z) m h = met-law t one (count_of t p) too_many Seated seated w.progress m r h
+  by_turn w r (met v q z) m h = met-law t one (count_of t p) too_many Seated seated w.progress m r cc
   by_turn w r (ended z) m h = let y : ◌≡◌ {A = ℕ} 0 1 = cc in absurd (omega arith)
   by_turn w r (broke f z) m h = let y : ◌≡◌ {A = ℕ} 0 1 = cc in absurd (omega arith)
 
-  pub met-room : (w : Walk) (r : Reading) → (next_of t p room w).answer ≡ Met r → w.progress.made < room
+  pub met-room : (w : Walk) (r : Reading) → (next_of t p room w).answer ≡ Ok (Met r) → w.progress.made < room
   met-room w r h = by_turn w r (turn_of t p room w.spot w.progress) (meets t one (count_of t p) too_many Seated seated w.spot w.progress) h
 
   -- ## No more readings than there is room for

@@ -27,11 +27,11 @@ use Rattle.fields.specs.Taken.{taken_of}
 use Rattle.fields.specs.Content.{read_over, field_read_of}
 use Rattle.reading.specs.declared.Span.{Span}
 use Rattle.reading.specs.declared.Progress.{Progress}
-use Rattle.reading.specs.declared.Decoded.TheVariants as decoded
 use Rattle.reading.specs.Groups.{too_many}
 use Rattle.reading.specs.Filling.{working_of, prepared_of}
-use Rattle.reading.specs.Decode.{settled, one_of, count_of, beginning, walk_of, end_of, decoded_in, decoded_of_lem}
+use Rattle.reading.specs.Decode.{settled, one_of, count_of, beginning, walk_of, end_of, decoded_in, decoded_of_lem, refused_with}
 use Rattle.reading.proofs.Passed.{passed-one}
+use Rattle.reading.proofs.Ending.{not-both, same-refusal}
 use Rattle.reading.proofs.Working.{readied, working-le}
 
 -- what is read of a field is refused as its bits are
@@ -91,16 +91,16 @@ module _ (t : Table) (received padded : List ℕ) (room : ℕ) (f : DecodeRefusa
   working = payload_of (working_of t received)
 
   by-run : prepared_of t (length received) (length padded) ≡ Ok tt → (w : Run Span Progress DecodeRefusal) → walk_of t working room ≡ w
-      → end_of t working w ≡ decoded.Refused f n → P f
-  by-run q (ran vs s) w e = let k : ◌≡◌ {A = ℕ} 0 1 = cc in absurd (omega arith)
+      → end_of t working w ≡ refused_with f n → P f
+  by-run q (ran vs s) w e = not-both e
   by-run q (stopped vs x) w e =
-      let k : x ≡ f = cc in
+      let k = same-refusal e in
       walk (readied t (length received) (length padded) q).table (working-le t received padded q) vs (w ∙ ap (stopped vs) k)
 
-  by-prepared : (q : Result (Unit {0}) DecodeRefusal) → prepared_of t (length received) (length padded) ≡ q → decoded_in q t working room ≡ decoded.Refused f n → P f ⊎ (q ≡ Err f)
+  by-prepared : (q : Result (Unit {0}) DecodeRefusal) → prepared_of t (length received) (length padded) ≡ q → decoded_in q t working room ≡ refused_with f n → P f ⊎ (q ≡ Err f)
   by-prepared (Ok tt) q e = inl (by-run q (walk_of t working room) refl e)
-  by-prepared (Err x) q e = let k : x ≡ f = cc in inr (ap Err k)
+  by-prepared (Err x) q e = let k = same-refusal e in inr (ap Err k)
 
   -- the walk gave it, or it was given before
-  pub decode-refusal : decoded_of_lem t received (length padded) room ≡ decoded.Refused f n → P f ⊎ (prepared_of t (length received) (length padded) ≡ Err f)
+  pub decode-refusal : decoded_of_lem t received (length padded) room ≡ refused_with f n → P f ⊎ (prepared_of t (length received) (length padded) ≡ Err f)
   decode-refusal h = by-prepared (prepared_of t (length received) (length padded)) refl h

@@ -2,10 +2,10 @@
 use mathlib.Core.Path.{◌≡◌, refl, sym, ap, ◌∙◌}
 use mathlib.Core.Bool.{Bool, true, false}
 use Prim.Native.Nat.{ℕ, ◌+◌, ◌≤◌, ◌<◌}
+use Rattle.std.specs.Prelude.{Ok, Err, Result, Option}
 use lib.Dec.{leb, ltb}
 use lib.ListN.{get_or}
 use borrow.Author.Tests.{lt-ltb, le-ltb}
-use Rattle.std.specs.Prelude.{Result, Ok, Err, Option}
 use Rattle.bits.specs.Bits.{pick}
 use Rattle.bits.specs.declared.BitPos.{BitPos}
 use Rattle.descriptor.specs.declared.PgnValue.{PgnValue}
@@ -23,7 +23,7 @@ use Rattle.fields.specs.declared.DecodeRefusal.TheVariants.{NoRoom}
 use Rattle.fields.specs.declared.FieldRead.{FieldRead}
 use Rattle.fields.specs.declared.FieldRead.TheVariants as read
 use Rattle.reading.specs.declared.Answer.{Answer}
-use Rattle.reading.specs.declared.Answer.TheVariants.{Met, Skipped, Moved, Refused}
+use Rattle.reading.specs.declared.Answer.TheVariants.{Met, Skipped, Moved}
 use Rattle.reading.specs.declared.Next.{Next}
 use Rattle.reading.specs.declared.Span.{Span}
 use Rattle.reading.specs.declared.Progress.{Progress}
@@ -46,12 +46,12 @@ module _ (t : Table) (p : Payload) (room : ℕ) (here to : Spot) (i : ℕ) (e : 
   abbrev target : Next
   target = shown t p here (seen to s (one_of t p room i e last s))
 
-  checked-in : (b : Bool) (v : Span) (z : Progress) → b ≡ true → next_to (met_of t p v) to z ≡ shown t p here (seen to s (check b (NoRoom i) (hit v z)))
+  checked-in : (b : Bool) (v : Span) (z : Progress) → b ≡ true → next_to (Ok (met_of t p v)) to z ≡ shown t p here (seen to s (check b (NoRoom i) (hit v z)))
   unfolding seen check
   checked-in true v z h = refl
   checked-in false v z h = cc
 
-  checked-out : (b : Bool) (v : Span) (z : Progress) → b ≡ false → next_to (Refused (NoRoom i)) here s ≡ shown t p here (seen to s (check b (NoRoom i) (hit v z)))
+  checked-out : (b : Bool) (v : Span) (z : Progress) → b ≡ false → next_to (Err (NoRoom i)) here s ≡ shown t p here (seen to s (check b (NoRoom i) (hit v z)))
   unfolding seen check
   checked-out true v z h = cc
   checked-out false v z h = refl
@@ -63,30 +63,30 @@ module _ (t : Table) (p : Payload) (room : ℕ) (here to : Spot) (i : ℕ) (e : 
     abbrev after : Progress
     after = progress_at (s.at.0 + n.0) (s.made + 1) (noted_by_lem t e i r s.counters)
 
-    pub see-met : s.made < room → next_to (Met (reading_of t p span)) to after ≡ target
+    pub see-met : s.made < room → next_to (Ok (Met (reading_of t p span))) to after ≡ target
     see-met l =
-        ap (λ (a : Answer). next_to a to after) (sym ((told (t.field i) p s.at.0 n i last r x h).met (reading_of t p span) span))
+        ap (λ (a : Answer). next_to (Ok a) to after) (sym ((told (t.field i) p s.at.0 n i last r x h).met (reading_of t p span) span))
         ∙ checked-in (ltb s.made room) span after (lt-ltb _ _ l) ∙ ap sees (sym h)
 
-    pub see-full : room ≤ s.made → next_to (Refused (NoRoom i)) here s ≡ target
+    pub see-full : room ≤ s.made → next_to (Err (NoRoom i)) here s ≡ target
     see-full l = checked-out (ltb s.made room) span after (le-ltb _ _ l) ∙ ap sees (sym h)
 
-  gone-in : (n : BitPos) → next_to (met_of t p (span_at i e s.at.0 n.0)) to (progress_at (s.at.0 + n.0) s.made s.counters) ≡ sees (Ok (read.Skipped n))
+  gone-in : (n : BitPos) → next_to (Ok (met_of t p (span_at i e s.at.0 n.0))) to (progress_at (s.at.0 + n.0) s.made s.counters) ≡ sees (Ok (read.Skipped n))
   unfolding seen
   gone-in n = refl
 
   pub see-gone : (n : BitPos) → result ≡ Ok (read.Skipped n)
-      → next_to (Skipped (span_at i e s.at.0 n.0)) to (progress_at (s.at.0 + n.0) s.made s.counters) ≡ target
+      → next_to (Ok (Skipped (span_at i e s.at.0 n.0))) to (progress_at (s.at.0 + n.0) s.made s.counters) ≡ target
   see-gone n h =
       let v : Span = span_at i e s.at.0 n.0 in
-      ap (λ (a : Answer). next_to a to (progress_at (s.at.0 + n.0) s.made s.counters)) (sym ((gone (t.field i) p s.at.0 n i last h).met (reading_of t p v) v))
+      ap (λ (a : Answer). next_to (Ok a) to (progress_at (s.at.0 + n.0) s.made s.counters)) (sym ((gone (t.field i) p s.at.0 n i last h).met (reading_of t p v) v))
       ∙ gone-in n ∙ ap sees (sym h)
 
-  refused-in : (f : DecodeRefusal) → next_to (Refused f) here s ≡ sees (Err f)
+  refused-in : (f : DecodeRefusal) → next_to (Err f) here s ≡ sees (Err f)
   unfolding seen
   refused-in f = refl
 
-  pub see-refused : (f : DecodeRefusal) → result ≡ Err f → next_to (Refused f) here s ≡ target
+  pub see-refused : (f : DecodeRefusal) → result ≡ Err f → next_to (Err f) here s ≡ target
   see-refused f h = refused-in f ∙ ap sees (sym h)
 
 -- ## Which field comes next
@@ -94,8 +94,8 @@ module _ (t : Table) (p : Payload) (room : ℕ) (here to : Spot) (i : ℕ) (e : 
 -- into a set
 module _ (t : Table) (p : Payload) (here : Spot) (s : Progress) (k : ℕ) where
   abbrev pub enter_says : Result ℕ DecodeRefusal → Next
-  enter_says (Ok n) = next_to Moved (spot.Within k n 0 0) s
-  enter_says (Err f) = next_to (Refused f) here s
+  enter_says (Ok n) = next_to (Ok Moved) (spot.Within k n 0 0) s
+  enter_says (Err f) = next_to (Err f) here s
 
   enter-in : (n most : ℕ) (b : Bool) → enter_says (pick b (Ok n) (Err (too_many k n most)))
       ≡ shown t p here (either b (moved (spot.Within k n 0 0) s) (broke (too_many k n most) s))

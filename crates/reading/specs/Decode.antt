@@ -2,6 +2,7 @@
 -- each made of its own span.
 use Rattle.std.specs.Prelude.{ℕ, ◌+◌, List, [], ◌∷◌, Bool, length, get_or, replicate, ltb, Result, Ok, Err}
 use Rattle.bits.specs.Calls.{bits}
+use Rattle.bits.specs.declared.BitPos.{BitPos}
 use Rattle.tables.specs.Table.{Table}
 use Rattle.tables.specs.Check.{set_max}
 use Rattle.walking.specs.Runs.{Run, ran, stopped}
@@ -16,7 +17,6 @@ use Rattle.reading.specs.declared.Span.{Span}
 use Rattle.reading.specs.declared.Reading.{Reading}
 use Rattle.reading.specs.declared.Progress.{Progress}
 use Rattle.reading.specs.declared.Decoded.{Decoded}
-use Rattle.reading.specs.declared.Decoded.TheVariants as decoded
 use Rattle.fields.specs.Payload.{Payload, payload_of, bits_left}
 use Rattle.fields.specs.Shapes.{shape_of}
 use Rattle.fields.specs.Content.{raw_in, value_in, availability_of, field_read_of}
@@ -87,15 +87,23 @@ abbrev pub spans_of : Run Span Progress DecodeRefusal → List Span
 spans_of (ran vs s) = vs
 spans_of (stopped vs f) = vs
 
+-- the end, and how many readings were made
+abbrev pub ended_at : BitPos → ℕ → Decoded
+ended_at end n = record { end = Ok end; count = n }
+
+-- the refusal, and how many were made before it
+abbrev pub refused_with : DecodeRefusal → ℕ → Decoded
+refused_with e n = record { end = Err e; count = n }
+
 -- the end, or the refusal; and the readings' count
 abbrev pub end_of : Table → Payload → Run Span Progress DecodeRefusal → Decoded
-end_of t p (ran vs s) = decoded.Ended s.at (length (readings t p vs))
-end_of t p (stopped vs f) = decoded.Refused f (length (readings t p vs))
+end_of t p (ran vs s) = ended_at s.at (length (readings t p vs))
+end_of t p (stopped vs f) = refused_with f (length (readings t p vs))
 
 -- "7, 8, then the walk"
 abbrev pub decoded_in : Result (Unit {0}) DecodeRefusal → Table → Payload → ℕ → Decoded
 decoded_in (Ok tt) t p room = end_of t p (walk_of t p room)
-decoded_in (Err e) t p room = decoded.Refused e 0
+decoded_in (Err e) t p room = refused_with e 0
 
 -- decoding what was received, with a padding run of so many bytes, and room for so many readings
 abbrev pub decoded_of_lem : Table → List ℕ → ℕ → ℕ → Decoded

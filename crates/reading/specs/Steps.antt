@@ -1,5 +1,5 @@
 -- One turn of the walk of document 01, "Reading a payload": what `next_field` answers; and what a caller that goes by it alone is handed.
-use Rattle.std.specs.Prelude.{ℕ, zero, suc, Bool, true, false, List, [], ◌∷◌, ◌++◌}
+use Rattle.std.specs.Prelude.{ℕ, zero, suc, Bool, true, false, List, [], ◌∷◌, ◌++◌, Option, Some, None, Result, Ok, Err}
 use Rattle.bits.specs.Bits.{pick}
 use Rattle.tables.specs.Table.{Table}
 use Rattle.walking.specs.declared.Spot.{Spot}
@@ -15,20 +15,18 @@ use Rattle.reading.specs.declared.Reading.{Reading}
 use Rattle.reading.specs.declared.Progress.{Progress}
 use Rattle.reading.specs.declared.Walk.{Walk}
 use Rattle.reading.specs.declared.Answer.{Answer}
-use Rattle.reading.specs.declared.Answer.TheVariants.{Met, Skipped, Moved, Ended, Refused}
+use Rattle.reading.specs.declared.Answer.TheVariants.{Met, Skipped, Moved, Ended}
 use Rattle.reading.specs.declared.Next.{Next}
-use Rattle.reading.specs.declared.Decoded.TheVariants as decoded
-use Rattle.reading.specs.declared.Came.{Came}
-use Rattle.reading.specs.declared.Came.TheVariants as came
+use Rattle.reading.specs.declared.Decoded.{Decoded}
 use Rattle.fields.specs.Payload.{Payload}
 use Rattle.fields.specs.Shapes.{shape_of}
 use Rattle.reading.specs.Groups.{too_many}
-use Rattle.reading.specs.Decode.{one_of, count_of, reading_of, beginning}
+use Rattle.reading.specs.Decode.{one_of, count_of, reading_of, beginning, ended_at, refused_with}
 
 abbrev pub walk_at_lem : Spot → Progress → Walk
 walk_at_lem q s = record { spot = q; progress = s }
 
-abbrev pub next_to : Answer → Spot → Progress → Next
+abbrev pub next_to : Result Answer DecodeRefusal → Spot → Progress → Next
 next_to a q s = record { answer = a; walk = walk_at_lem q s }
 
 -- a field met: its reading, unless it is skipped
@@ -45,10 +43,10 @@ met_of t p v = met_by (shape_of (t.field v.field)) (reading_of t p v) v
 
 -- what a turn came to: a walk that has ended or was refused stays at its spot
 abbrev pub shown : Table → Payload → Spot → Turn Span Progress DecodeRefusal → Next
-shown t p here (moved q s) = next_to Moved q s
-shown t p here (met v q s) = next_to (met_of t p v) q s
-shown t p here (ended s) = next_to Ended here s
-shown t p here (broke f s) = next_to (Refused f) here s
+shown t p here (moved q s) = next_to (Ok Moved) q s
+shown t p here (met v q s) = next_to (Ok (met_of t p v)) q s
+shown t p here (ended s) = next_to (Ok Ended) here s
+shown t p here (broke f s) = next_to (Err f) here s
 
 abbrev pub turn_of : Table → Payload → ℕ → Spot → Progress → Turn Span Progress DecodeRefusal
 turn_of t p room here s = turn t (one_of t p room) (count_of t p) too_many here s
@@ -68,32 +66,32 @@ start_of = walk_at_lem (spot.Field 0) beginning
 -- ## Going by turns alone
 
 -- whether the walk goes on
-abbrev pub goes_on_lem : Answer → Bool
-goes_on_lem (Met r) = true
-goes_on_lem (Skipped v) = true
-goes_on_lem Moved = true
-goes_on_lem Ended = false
-goes_on_lem (Refused f) = false
+abbrev pub goes_on_lem : Result Answer DecodeRefusal → Bool
+goes_on_lem (Ok (Met r)) = true
+goes_on_lem (Ok (Skipped v)) = true
+goes_on_lem (Ok Moved) = true
+goes_on_lem (Ok Ended) = false
+goes_on_lem (Err f) = false
 
 -- what a decode has come to with a turn. Where the walk goes on there is no answer yet; else it is the end, or the refusal, and the readings made
-abbrev pub came_by : Answer → Progress → Came
-came_by (Met r) s = came.On
-came_by (Skipped v) s = came.On
-came_by Moved s = came.On
-came_by Ended s = came.To (decoded.Ended s.at s.made)
-came_by (Refused f) s = came.To (decoded.Refused f s.made)
+abbrev pub came_by : Result Answer DecodeRefusal → Progress → Option Decoded
+came_by (Ok (Met r)) s = None
+came_by (Ok (Skipped v)) s = None
+came_by (Ok Moved) s = None
+came_by (Ok Ended) s = Some (ended_at s.at s.made)
+came_by (Err f) s = Some (refused_with f s.made)
 
 -- `came_to`
-abbrev pub came_to_lem : Next → Came
+abbrev pub came_to_lem : Next → Option Decoded
 came_to_lem n = came_by n.answer n.walk.progress
 
 -- the reading that a turn hands out, if it does
-abbrev pub handed : Answer → List Reading
-handed (Met r) = r ∷ []
-handed (Skipped v) = []
-handed Moved = []
-handed Ended = []
-handed (Refused f) = []
+abbrev pub handed : Result Answer DecodeRefusal → List Reading
+handed (Ok (Met r)) = r ∷ []
+handed (Ok (Skipped v)) = []
+handed (Ok Moved) = []
+handed (Ok Ended) = []
+handed (Err f) = []
 
 -- the readings that a caller of `next_field` is handed, in at most so many turns from a walk on
 unfoldable pub handed_in : Table → Payload → ℕ → ℕ → Walk → List Reading

@@ -5,7 +5,7 @@ ghost use Rattle.tables.specs.Check.{check_of};
 ghost use Rattle.reading.specs.Demand3.{room_enough_lem};
 ghost use Rattle.reading.specs.Clauses.{Decodes, walked_by};
 
-use crate::{Came, Decoded, ROOM_ENOUGH, filling, turns};
+use crate::{Decoded, ROOM_ENOUGH, filling, turns};
 
 // The walk through the working payload s, by an accepted table.
 fn walked(words: &[u64], s: &[u8], room: usize) -> Decoded
@@ -15,14 +15,10 @@ fn walked(words: &[u64], s: &[u8], room: usize) -> Decoded
     let mut walk = turns::start();
     loop {
         let next = turns::next_field(words, s, room, walk);
-        match turns::came_to(next) {
-            Came::On => {
-                walk = next.walk;
-            }
-            Came::To(decoded) => {
-                return decoded;
-            }
+        if let Some(decoded) = turns::came_to(next) {
+            return decoded;
         }
+        walk = next.walk;
     }
 }
 
@@ -36,7 +32,10 @@ pub fn for_each_field(words: &[u64], received: &[u8], padded: &mut [u8], room: u
             let s = filling::pad_to_min_length(words, received, padded);
             walked(words, s, room)
         }
-        Err(refusal) => Decoded::Refused { refusal, count: 0 },
+        Err(refusal) => Decoded {
+            end: Err(refusal),
+            count: 0,
+        },
     }
 }
 

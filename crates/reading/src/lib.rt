@@ -9,7 +9,7 @@
 //     prepare               7 and 8, and fills the lent padding run where the table asks for it
 //     pad_to_min_length     the working payload: the received slice, or a part of the padding run
 //     start, next_field     turn by turn: a reading, a field skipped, the end or the refusal
-//     came_to               what a turn came to: the walk goes on, or the answer of the decode
+//     came_to               what a turn came to: the answer of the decode, or none where the walk goes on
 //     for_each_field        all of it in one call, without the readings
 #![tactic(auto)]
 
@@ -78,32 +78,18 @@ pub enum Answer {
     Moved,
     // At the end, which is the walk's cursor.
     Ended,
-    Refused(DecodeRefusal),
 }
 
 // The answer of `next_field`: an enum cannot hold the counters, so the walk stands beside it.
 #[derive(Clone, Copy)]
 pub struct Next {
-    pub answer: Answer,
+    pub answer: Result<Answer, DecodeRefusal>,
     pub walk: Walk,
 }
 
-// The answer of `for_each_field`, with the number of readings made.
+// The answer of `for_each_field`: the end or the refusal, and the number of readings made.
 #[derive(Clone, Copy)]
-pub enum Decoded {
-    Ended {
-        end: BitPos,
-        count: usize,
-    },
-    Refused {
-        refusal: DecodeRefusal,
-        count: usize,
-    },
-}
-
-// What a decode has come to with a turn: `Decoded` only where that was the walk's last.
-#[derive(Clone, Copy)]
-pub enum Came {
-    On,
-    To(Decoded),
+pub struct Decoded {
+    pub end: Result<BitPos, DecodeRefusal>,
+    pub count: usize,
 }

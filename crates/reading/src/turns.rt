@@ -7,7 +7,7 @@ ghost use Rattle.reading.specs.Clauses.{ReadOf};
 ghost use Rattle.reading.specs.Decode.{reading_of};
 ghost use Rattle.reading.specs.Steps.{next_to, shown_at, next_of, start_of, came_to_lem};
 
-use crate::{Answer, Came, Decoded, Next, Progress, Reading, Span, Walk, groups};
+use crate::{Answer, Decoded, Next, Progress, Reading, Span, Walk, groups};
 use bits::{BitPos, Cursor};
 use descriptor::PgnValue;
 use fields::{DecodeRefusal, FieldRead, field_availability, read_field_raw_and_value};
@@ -28,7 +28,7 @@ pub fn start() -> Walk
     }
 }
 
-fn next(answer: Answer, spot: Spot, progress: Progress) -> Next
+fn next(answer: Result<Answer, DecodeRefusal>, spot: Spot, progress: Progress) -> Next
     ensures { result ≡ next_to answer spot progress }
 {
     let walk = Walk { spot, progress };
@@ -92,9 +92,9 @@ fn see(
                     made: made + 1,
                     counters,
                 };
-                return next(Answer::Met(reading), to, progress);
+                return next(Ok(Answer::Met(reading)), to, progress);
             }
-            next(Answer::Refused(DecodeRefusal::NoRoom { field: i }), here, p)
+            next(Err(DecodeRefusal::NoRoom { field: i }), here, p)
         }
         Ok(FieldRead::Skipped { bits }) => {
             let v = Span {
@@ -109,9 +109,9 @@ fn see(
                 made,
                 counters: cs,
             };
-            next(Answer::Skipped(v), to, progress)
+            next(Ok(Answer::Skipped(v)), to, progress)
         }
-        Err(e) => next(Answer::Refused(e), here, p),
+        Err(e) => next(Err(e), here, p),
     }
 }
 
@@ -132,9 +132,9 @@ fn enter(words: &[u64], s: &[u8], k: usize, p: Progress, here: Spot) -> Next
                 element: 0,
                 offset: 0,
             };
-            next(Answer::Moved, to, p)
+            next(Ok(Answer::Moved), to, p)
         }
-        Err(e) => next(Answer::Refused(e), here, p),
+        Err(e) => next(Err(e), here, p),
     }
 }
 
@@ -145,8 +145,8 @@ pub fn next_field(words: &[u64], s: &[u8], room: usize, walk: Walk) -> Next
     let here = walk.spot;
     let p = walk.progress;
     match walking::look_at(words, here) {
-        Look::End => next(Answer::Ended, here, p),
-        Look::Pass(to) => next(Answer::Moved, to, p),
+        Look::End => next(Ok(Answer::Ended), here, p),
+        Look::Pass(to) => next(Ok(Answer::Moved), to, p),
         Look::Enter(k) => enter(words, s, k, p, here),
         Look::Meet {
             field,
@@ -157,20 +157,21 @@ pub fn next_field(words: &[u64], s: &[u8], room: usize, walk: Walk) -> Next
     }
 }
 
-// What a turn came to: the walk goes on, or this is what the decode answers.
-pub fn came_to(next: Next) -> Came
+// What the decode answers, where a turn was the walk's last; none where the walk goes on.
+pub fn came_to(next: Next) -> Option<Decoded>
     ensures { result ≡ came_to_lem next }
 {
-    let answer = next.answer;
-    let walk = next.walk;
-    let progress = walk.progress;
-    let end = progress.at;
+    let progress = next.walk.progress;
     let count = progress.made;
-    match answer {
-        Answer::Met(_) => Came::On,
-        Answer::Skipped(_) => Came::On,
-        Answer::Moved => Came::On,
-        Answer::Ended => Came::To(Decoded::Ended { end, count }),
-        Answer::Refused(refusal) => Came::To(Decoded::Refused { refusal, count }),
+    match next.answer {
+        Ok(Answer::Ended) => Some(Decoded {
+            end: Ok(progress.at),
+            count,
+        }),
+        Ok(_) => None,
+        Err(refusal) => Some(Decoded {
+            end: Err(refusal),
+            count,
+        }),
     }
 }

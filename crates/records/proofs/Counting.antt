@@ -19,11 +19,11 @@ use Rattle.reading.specs.declared.Reading.{Reading}
 use Rattle.reading.specs.Decode.{readings, spans_of, end_of}
 use Rattle.records.specs.Layout.{bytes_of, records, room_in_lem, stored_in}
 use Rattle.records.specs.Puts.{puts}
-use Rattle.records.specs.Stretches.{Roomy, stored, count_in_lem, counted}
+use Rattle.records.specs.Stretches.{Roomy, stored, counted}
 use Rattle.records.proofs.Putting.{length-bytes, length-records, puts-in, puts-past}
 use Rattle.records.proofs.Quickly.{length-stored}
 
-pub count-end : (t : Table) (p : Payload) (w : Run Span Progress DecodeRefusal) → count_in_lem (end_of t p w) ≡ length (readings t p (spans_of w))
+pub count-end : (t : Table) (p : Payload) (w : Run Span Progress DecodeRefusal) → (end_of t p w).count ≡ length (readings t p (spans_of w))
 count-end t p (ran vs s) = refl
 count-end t p (stopped vs f) = refl
 

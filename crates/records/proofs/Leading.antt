@@ -4,10 +4,10 @@ use mathlib.Core.Bool.{Bool, true, false}
 use mathlib.Core.List.{List, [], ◌∷◌, ◌++◌, append-nil, append_assoc}
 use Prim.Native.Nat.{ℕ, zero, suc, ◌+◌, ◌-◌, ◌≤◌, ◌<◌}
 use native.Mathlib.Omega.{arith}
+use Rattle.std.specs.Prelude.{None, Ok, Some}
 use lib.Dec.{eqb, ltb}
 use lib.ListN.{length-append}
 use borrow.Author.Tests.{lt-ltb, le-ltb}
-use Rattle.std.specs.Prelude.{None, Ok, Some}
 use Rattle.tables.specs.Table.{Table}
 use Rattle.tables.specs.Check.{check_of}
 use Rattle.tables.specs.declared.RepeatingFieldSet.{RepeatingFieldSet}
@@ -99,7 +99,7 @@ module _ (t : Table) (p : Payload) (room : ℕ) where
   pub led-met : (q q' : Spot) (s z : Progress) (v : Span) → turn_of t p room q s ≡ met v q' z → Led t p room (walk_at_lem q s) (readings t p (v ∷ [])) (walk_at_lem q' z)
   led-met q q' s z v h =
       subst (λ (l : List Reading). Led t p room (walk_at_lem q s) l (walk_at_lem q' z)) (sym (one-hands t p room v))
-      (led-one (walk_at_lem q s) (next_to (met_of t p v) q' z) (ap (shown t p q) h) (met-on t p room (shape_of (t.field v.field)) (reading_of t p v) v))
+      (led-one (walk_at_lem q s) (next_to (Ok (met_of t p v)) q' z) (ap (shown t p q) h) (met-on t p room (shape_of (t.field v.field)) (reading_of t p v) v))
 
   pub led-moved : (q q' : Spot) (s z : Progress) → turn_of t p room q s ≡ moved q' z → Led t p room (walk_at_lem q s) [] (walk_at_lem q' z)
   led-moved q q' s z h = led-one (walk_at_lem q s) (next_to _ q' z) (ap (shown t p q) h) refl

@@ -5,17 +5,17 @@ use mathlib.Core.List.{List, [], ◌∷◌, ◌++◌, append-nil}
 use Prim.Native.Nat.{ℕ, ◌+◌, ◌≤◌, ◌<◌}
 use native.Mathlib.Omega.{arith}
 use lib.ListN.{length}
-use Rattle.std.specs.Prelude.{Ok}
+use Rattle.std.specs.Prelude.{Ok, Some, None, Result, Err}
 use Rattle.tables.specs.Table.{Table}
 use Rattle.tables.specs.Check.{check_of}
+use Rattle.fields.specs.declared.DecodeRefusal.{DecodeRefusal}
 use Rattle.fields.specs.Payload.{Payload}
 use Rattle.reading.specs.declared.Reading.{Reading}
 use Rattle.reading.specs.declared.Walk.{Walk}
 use Rattle.reading.specs.declared.Next.{Next}
 use Rattle.reading.specs.declared.Decoded.{Decoded}
-use Rattle.reading.specs.declared.Came.TheVariants as came
 use Rattle.reading.specs.declared.Answer.{Answer}
-use Rattle.reading.specs.declared.Answer.TheVariants.{Met, Skipped, Moved, Ended, Refused}
+use Rattle.reading.specs.declared.Answer.TheVariants.{Met, Skipped, Moved, Ended}
 use Rattle.reading.specs.Decode.{walk_of, readings, spans_of, end_of}
 use Rattle.reading.specs.Steps.{next_of, start_of, goes_on_lem, came_to_lem, handed}
 use Rattle.reading.proofs.Looped.{Going, heft, going, Turned, turned, came-on, came-last, comes-to}
@@ -28,12 +28,12 @@ no_more [] h = refl
 no_more (r ∷ rs) h = absurd (omega (arith, h))
 
 -- a turn that does not go on hands out nothing
-none-handed : (a : Answer) → goes_on_lem a ≡ false → handed a ≡ []
-none-handed (Met r) o = let y : ◌≡◌ {A = ℕ} 0 1 = cc in absurd (omega arith)
-none-handed (Skipped v) o = refl
-none-handed Moved o = refl
-none-handed Ended o = refl
-none-handed (Refused f) o = refl
+none-handed : (a : Result Answer DecodeRefusal) → goes_on_lem a ≡ false → handed a ≡ []
+none-handed (Ok (Met r)) o = let y : ◌≡◌ {A = ℕ} 0 1 = cc in absurd (omega arith)
+none-handed (Ok (Skipped v)) o = refl
+none-handed (Ok Moved) o = refl
+none-handed (Ok Ended) o = refl
+none-handed (Err f) o = refl
 
 module _ (t : Table) (p : Payload) (room : ℕ) (out₀ : List ℕ) where
   pub record Storing (w : Walk) (out : List ℕ) : Type 0 where
@@ -76,12 +76,12 @@ module _ (t : Table) (p : Payload) (room : ℕ) (out₀ : List ℕ) where
       after : Turned t p room w h.still n
       after = subst (λ (x : Next). Turned t p room w h.still x) (sym same) (turned t p room ok w h.still)
 
-      pub next-on : came_to_lem n ≡ came.On → Next-on w n out'
+      pub next-on : came_to_lem n ≡ None → Next-on w n out'
       next-on o =
           let y = after.on (came-on n.answer n.walk.progress o) in
           record { storing = record { still = y.still; puts = storing-more w out h (handed n.answer) (readings t p y.still.done) out' e y.hands }; less = y.less }
 
-      pub next_last : (d : Decoded) → came_to_lem n ≡ came.To d → Next-last d out'
+      pub next_last : (d : Decoded) → came_to_lem n ≡ Some d → Next-last d out'
       next_last d z =
           let o = came-last n.answer n.walk.progress d z in
           let q = none-handed n.answer o in

@@ -9,16 +9,15 @@ use Rattle.std.specs.Prelude.{Result}
 use Rattle.tables.specs.Table.{Table}
 use Rattle.fields.specs.declared.DecodeRefusal.{DecodeRefusal}
 use Rattle.fields.specs.Refusals.{number_of, touches_nothing_lem}
-use Rattle.reading.specs.declared.Decoded.TheVariants.{Refused}
 use Rattle.reading.specs.Filling.{kept_unless, run_after}
-use Rattle.reading.specs.Decode.{readings_of}
+use Rattle.reading.specs.Decode.{refused_with, readings_of}
 use Rattle.reading.proofs.Working.{run-refused}
 use Rattle.reading.proofs.Given.{before-walk}
 use Rattle.records.specs.Layout.{room_in_lem, stored_in}
 use Rattle.records.specs.Into.{decoded_into, out_after}
 
 pub untouched : (t : Table) (received padded out : List ℕ) (f : DecodeRefusal) (n : ℕ)
-    → decoded_into t received (length padded) (length out) ≡ Refused f n → touches_nothing_lem (number_of f) ≡ true
+    → decoded_into t received (length padded) (length out) ≡ refused_with f n → touches_nothing_lem (number_of f) ≡ true
     → (run_after t received padded ≡ padded) × (out_after t received (length padded) out ≡ out)
 untouched t received padded out f n h z =
     let room = room_in_lem (length out) in

@@ -1,6 +1,6 @@
 -- What each call answers and leaves, as its contract says it: one equation for the answer, and one for each buffer that is lent to be written, at exit. They put the
 -- definitions of `reading`, Layout, Into and Pgn together over the words and bytes themselves, and rule nothing of their own: only the code needs them.
-use Rattle.std.specs.Prelude.{◌≡◌, ℕ, List, length}
+use Rattle.std.specs.Prelude.{◌≡◌, ℕ, List, Option, length}
 use Rattle.tables.specs.Table.{table_of}
 use Rattle.fields.specs.Payload.{payload_of}
 use Rattle.reading.specs.declared.Decoded.{Decoded}
@@ -9,7 +9,6 @@ use Rattle.reading.specs.declared.Walk.{Walk}
 use Rattle.reading.specs.Filling.{run_after}
 use Rattle.reading.specs.Decode.{walk_of, spans_of, readings, end_of}
 use Rattle.reading.specs.Steps.{next_of, handed}
-use Rattle.records.specs.declared.ByPgn.{ByPgn}
 use Rattle.records.specs.Layout.{room_in_lem, stored_in}
 use Rattle.records.specs.Into.{decoded_into, out_after}
 use Rattle.records.specs.Pgn.{by_pgn_of, out_by_pgn}
@@ -54,6 +53,6 @@ DecodesInto r run after words received padded out =
     × ((run ≡ run_after t received padded) × (after ≡ out_after t received (length padded) out))
 
 -- `decode_pgn_into`
-abbrev pub DecodesByPgn : ByPgn → List ℕ → ℕ → List ℕ → ℕ → List ℕ → Type 0
+abbrev pub DecodesByPgn : Option Decoded → List ℕ → ℕ → List ℕ → ℕ → List ℕ → Type 0
 DecodesByPgn r after pgn received padded out =
     (r ≡ by_pgn_of pgn received padded (length out)) × (after ≡ out_by_pgn pgn received padded out)

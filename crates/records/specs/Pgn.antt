@@ -3,8 +3,7 @@ use Rattle.std.specs.Prelude.{ℕ, List, Option, Some, None}
 use Rattle.tables.specs.Table.{table_of}
 use Rattle.messages.specs.declared.Message.{Message}
 use Rattle.messages.specs.Messages.{message_of_lem, words_of}
-use Rattle.records.specs.declared.ByPgn.{ByPgn}
-use Rattle.records.specs.declared.ByPgn.TheVariants.{Unknown, Known}
+use Rattle.reading.specs.declared.Decoded.{Decoded}
 use Rattle.records.specs.Into.{decoded_into, out_after}
 
 -- what comes of the words of a message's table, or of a PGN that has none
@@ -16,8 +15,8 @@ of_known f none None = none
 abbrev pub of_built_in : {A : Type 0} → ℕ → (List ℕ → A) → A → A
 of_built_in pgn f none = of_known f none (message_of_lem pgn)
 
-abbrev pub by_pgn_of : ℕ → List ℕ → ℕ → ℕ → ByPgn
-by_pgn_of pgn received padded out = of_built_in pgn (λ ws. Known (decoded_into (table_of ws) received padded out)) Unknown
+abbrev pub by_pgn_of : ℕ → List ℕ → ℕ → ℕ → Option Decoded
+by_pgn_of pgn received padded out = of_built_in pgn (λ ws. Some (decoded_into (table_of ws) received padded out)) None
 
 -- the buffer after the call: an unknown PGN touches nothing
 abbrev pub out_by_pgn : ℕ → List ℕ → ℕ → List ℕ → List ℕ

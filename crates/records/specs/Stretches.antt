@@ -1,6 +1,6 @@
 -- Stretches of a walk: what the functions that read numbers quickly say of each other. It is no part of document 01: that the quick way comes to
 -- the walk of reading is proofs/Quickly.antt.
-use Rattle.std.specs.Prelude.{◌≡◌, ℕ, ◌+◌, ◌-◌, ◌*◌, ◌≤◌, ◌<◌, Bool, true, false, List, [], ◌∷◌, ◌++◌, ltb, length, Option, Some}
+use Rattle.std.specs.Prelude.{◌≡◌, ℕ, ◌+◌, ◌-◌, ◌*◌, ◌≤◌, ◌<◌, Bool, true, false, List, [], ◌∷◌, ◌++◌, ltb, length, Option, Some, None}
 use Rattle.bits.specs.Bits.{pick}
 use Rattle.tables.specs.Table.{Table}
 use Rattle.tables.specs.Rules.{in_set}
@@ -18,9 +18,7 @@ use Rattle.reading.specs.Decode.{span_at, progress_at, one_of, readings}
 use Rattle.reading.specs.Steps.{walk_at_lem, next_of, goes_on_lem, handed}
 use Rattle.records.specs.declared.Stretch.{Stretch}
 use Rattle.records.specs.declared.Quick.{Quick}
-use Rattle.records.specs.declared.Quick.TheVariants.{Took, Skipped, Passed}
-use Rattle.reading.specs.declared.Decoded.{Decoded}
-use Rattle.reading.specs.declared.Decoded.TheVariants as decoded
+use Rattle.records.specs.declared.Quick.TheVariants.{Took, Skipped}
 use Rattle.records.specs.Layout.{prefix_bytes, record_bytes, bytes_of, records}
 use Rattle.records.specs.Puts.{puts}
 
@@ -81,10 +79,10 @@ module _ (t : Table) (p : Payload) (room i : ℕ) (e : Element) (at made : ℕ) 
     pub puts : out' ≡ stored out made (readings t p (span_at i e at n ∷ []))
     pub near : at + n ≤ 524288
 
-  abbrev pub QuickSays : Quick → List ℕ → Type 0
-  QuickSays (Took n r) out' = Field n 1 (noted_by_lem t e i (Some r)) out' × (made < room)
-  QuickSays (Skipped n) out' = Field n 0 (λ cs. cs) out'
-  QuickSays Passed out' = out' ≡ out
+  abbrev pub QuickSays : Option Quick → List ℕ → Type 0
+  QuickSays (Some (Took n r)) out' = Field n 1 (noted_by_lem t e i (Some r)) out' × (made < room)
+  QuickSays (Some (Skipped n)) out' = Field n 0 (λ cs. cs) out'
+  QuickSays None out' = out' ≡ out
 
 -- ## Fields one after another
 
@@ -130,10 +128,6 @@ pub record LeadsIn (t : Table) (p : Payload) (room k e j at made : ℕ) (out : L
       → Leads t p room (walk_at_lem (Within k n e j) (progress_at at made cs)) out (walk_at_lem (Within k n e r.field) (progress_at r.at r.made cs)) out'
 
 -- ## The count
-
-abbrev pub count_in_lem : Decoded → ℕ
-count_in_lem (decoded.Ended end count) = count
-count_in_lem (decoded.Refused e count) = count
 
 -- a count put in front, where it has room
 abbrev pub counted : List ℕ → ℕ → List ℕ

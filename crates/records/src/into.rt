@@ -3,7 +3,7 @@ ghost use Rattle.std.specs.Prelude.{◌≡◌, Ok};
 ghost use Rattle.tables.specs.Table.{table_of};
 ghost use Rattle.tables.specs.Check.{check_of};
 ghost use Rattle.records.specs.Layout.{room_in_lem};
-ghost use Rattle.records.specs.Stretches.{count_in_lem, counted};
+ghost use Rattle.records.specs.Stretches.{counted};
 ghost use Rattle.records.specs.Clauses.{Walks, DecodesInto};
 
 use crate::layout::put_word;
@@ -18,15 +18,6 @@ pub fn room_in(len: usize) -> usize
         return 0;
     }
     (len - 8) / 64
-}
-
-fn count_in(decoded: Decoded) -> usize
-    ensures { result ≡ count_in_lem decoded }
-{
-    match decoded {
-        Decoded::Ended { end: _, count } => count,
-        Decoded::Refused { refusal: _, count } => count,
-    }
 }
 
 // Puts the count, where it has room.
@@ -46,7 +37,7 @@ pub(crate) fn walked(words: &[u64], s: &[u8], out: &mut [u8]) -> Decoded
 {
     let room = room_in(out.len());
     let decoded = walks::store(words, s, room, out);
-    put_count(out, count_in(decoded));
+    put_count(out, decoded.count);
     decoded
 }
 
@@ -59,6 +50,9 @@ pub fn decode_into(words: &[u64], received: &[u8], padded: &mut [u8], out: &mut 
             let s = reading::pad_to_min_length(words, received, padded);
             walked(words, s, out)
         }
-        Err(refusal) => Decoded::Refused { refusal, count: 0 },
+        Err(refusal) => Decoded {
+            end: Err(refusal),
+            count: 0,
+        },
     }
 }

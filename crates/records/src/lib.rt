@@ -20,23 +20,13 @@ pub use crate::into::{decode_into, room_in};
 pub use crate::pgns::decode_pgn_into;
 pub use crate::readings::{bytes_in, element_word, raw_mark, raw_word, value_word};
 
-// The answer of `decode_pgn_into`.
-#[derive(Clone, Copy)]
-pub enum ByPgn {
-    // No table of this PGN is built in.
-    Unknown,
-    Known(Decoded),
-}
-
-// What was done at a field.
+// What was done at a field that is read quickly.
 #[derive(Clone, Copy)]
 pub(crate) enum Quick {
     // A number: its bits, and its raw.
     Took { bits: usize, raw: u64 },
     // Bits that are skipped.
     Skipped { bits: usize },
-    // Nothing: the field has to be read the long way.
-    Passed,
 }
 
 // Where a stretch of fields ended: the field after it, the bit, the readings made, and the raw that its

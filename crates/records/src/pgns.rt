@@ -3,12 +3,27 @@
 ghost use Rattle.std.specs.Prelude.{◌≡◌, length, Ok};
 ghost use Rattle.tables.specs.Table.{table_of};
 ghost use Rattle.tables.specs.Check.{check_of};
+ghost use Rattle.bits.specs.Calls.{bytes};
+ghost use Rattle.fields.specs.declared.DecodeRefusal.TheVariants.{WrongLength};
+ghost use Rattle.reading.specs.Decode.{refused_with};
 ghost use Rattle.records.specs.Clauses.{Reads, DecodesByPgn};
 
-use crate::{ByPgn, into};
+use crate::into;
 use bits::ByteCount;
 use fields::DecodeRefusal;
 use reading::Decoded;
+
+// Refusal 7, before any reading.
+fn wrong_length(len: usize) -> Decoded
+    ensures { result ≡ refused_with (WrongLength (bytes len)) 0 }
+{
+    Decoded {
+        end: Err(DecodeRefusal::WrongLength {
+            length: ByteCount(len),
+        }),
+        count: 0,
+    }
+}
 
 // By an accepted table that fills nothing.
 fn known(words: &[u64], received: &[u8], padded: &[u8], out: &mut [u8]) -> Decoded
@@ -16,34 +31,19 @@ fn known(words: &[u64], received: &[u8], padded: &[u8], out: &mut [u8]) -> Decod
     ensures { Reads result out.new words.now received.now (length padded.now) out.old }
 {
     if tables::PAYLOAD_MAX < received.len() {
-        return Decoded::Refused {
-            refusal: DecodeRefusal::WrongLength {
-                length: ByteCount(received.len()),
-            },
-            count: 0,
-        };
+        return wrong_length(received.len());
     }
     if padded.len() == tables::PAYLOAD_MAX {
         return into::walked(words, received, out);
     }
-    Decoded::Refused {
-        refusal: DecodeRefusal::WrongLength {
-            length: ByteCount(padded.len()),
-        },
-        count: 0,
-    }
+    wrong_length(padded.len())
 }
 
 // Every field of a received payload, by the table of its PGN, into records. The padding run is of 223
 // bytes; no table that is built in fills it.
-pub fn decode_pgn_into(pgn: u32, received: &[u8], padded: &[u8], out: &mut [u8]) -> ByPgn
+pub fn decode_pgn_into(pgn: u32, received: &[u8], padded: &[u8], out: &mut [u8]) -> Option<Decoded>
     ensures { DecodesByPgn result out.new pgn received.now (length padded.now) out.old }
 {
-    match messages::message_of(pgn) {
-        Some(message) => {
-            let decoded = known(message.table(), received, padded, out);
-            ByPgn::Known(decoded)
-        }
-        None => ByPgn::Unknown,
-    }
+    let message = messages::message_of(pgn)?;
+    Some(known(message.table(), received, padded, out))
 }

@@ -21,7 +21,7 @@ fn number(
     at: usize,
     made: usize,
     out: &mut [u8],
-) -> Quick
+) -> Option<Quick>
     requires { (f ≡ (table_of words.now).field i) × ((is_number (shape_of f) ≡ true) × Roomy room out.old) }
     ensures { QuickSays (table_of words.now) (payload_of s.now) room i e at made out.old result out.new }
 {
@@ -31,16 +31,15 @@ fn number(
         return match c.read_u64(s, width) {
             ReadU64::Got { value, next: _ } => {
                 readings::put_number(out, 8 + 64 * made, i, e, at, f, value);
-                let taken = width as usize;
-                Quick::Took {
-                    bits: taken,
+                Some(Quick::Took {
+                    bits: width as usize,
                     raw: value,
-                }
+                })
             }
-            ReadU64::Refused(_) => Quick::Passed,
+            ReadU64::Refused(_) => None,
         };
     }
-    Quick::Passed
+    None
 }
 
 // Field i, a simple number at bit `at`.
@@ -54,7 +53,7 @@ fn simple(
     at: usize,
     made: usize,
     out: &mut [u8],
-) -> Quick
+) -> Option<Quick>
     requires { Simple ((table_of words.now).field i) width × Roomy room out.old }
     ensures { QuickSays (table_of words.now) (payload_of s.now) room i e at made out.old result out.new }
 {
@@ -64,16 +63,15 @@ fn simple(
             ReadU64::Got { value, next: _ } => {
                 let n = numbers::simple_words(width, value);
                 readings::put_words(out, 8 + 64 * made, i, e, at, width, value, n);
-                let taken = width as usize;
-                Quick::Took {
-                    bits: taken,
+                Some(Quick::Took {
+                    bits: width as usize,
                     raw: value,
-                }
+                })
             }
-            ReadU64::Refused(_) => Quick::Passed,
+            ReadU64::Refused(_) => None,
         };
     }
-    Quick::Passed
+    None
 }
 
 // Field i, bits that are skipped.
@@ -87,18 +85,17 @@ fn gap(
     at: usize,
     made: usize,
     out: &[u8],
-) -> Quick
+) -> Option<Quick>
     requires { (f ≡ (table_of words.now).field i) × (is_gap_lem (shape_of f) ≡ true) }
     ensures { QuickSays (table_of words.now) (payload_of s.now) room i e at made out.now result out.now }
 {
     let width = f.width;
     let c = Cursor { at: BitPos(at) };
     match c.advance(s, width) {
-        Moved::To { next: _ } => {
-            let taken = width as usize;
-            Quick::Skipped { bits: taken }
-        }
-        Moved::Refused(_) => Quick::Passed,
+        Moved::To { next: _ } => Some(Quick::Skipped {
+            bits: width as usize,
+        }),
+        Moved::Refused(_) => None,
     }
 }
 
@@ -112,7 +109,7 @@ fn quick(
     at: usize,
     made: usize,
     out: &mut [u8],
-) -> Quick
+) -> Option<Quick>
     requires { Roomy room out.old }
     ensures { QuickSays (table_of words.now) (payload_of s.now) room i e at made out.old result out.new }
 {
@@ -127,7 +124,7 @@ fn quick(
     if fields::is_gap(f) {
         return gap(words, s, room, i, e, f, at, made, out);
     }
-    Quick::Passed
+    None
 }
 
 // The fields from `from` up to `end`, as far as they are quick. Only the last of them may be a counter:
@@ -152,18 +149,18 @@ pub(crate) fn run(
     let mut last = None;
     while i < end {
         match quick(words, s, room, i, e, at, made, out) {
-            Quick::Took { bits, raw } => {
+            Some(Quick::Took { bits, raw }) => {
                 last = Some(raw);
                 i += 1;
                 at += bits;
                 made += 1;
             }
-            Quick::Skipped { bits } => {
+            Some(Quick::Skipped { bits }) => {
                 last = None;
                 i += 1;
                 at += bits;
             }
-            Quick::Passed => {
+            None => {
                 return stretch(i, at, made, None);
             }
         }

@@ -11,7 +11,7 @@ ghost use Rattle.records.specs.Clauses.{Turns, Stores};
 
 use crate::{Stretch, readings, runs, stretches};
 use bits::BitPos;
-use reading::{Answer, Came, Decoded, Next, Progress, Walk};
+use reading::{Answer, Decoded, Next, Progress, Walk};
 use walking::Spot;
 
 // Element e of set k from offset j on, as far as it is quick. The stretch's field is an offset.
@@ -187,24 +187,18 @@ fn quickly(words: &[u64], s: &[u8], room: usize, walk: Walk, out: &mut [u8]) -> 
 }
 
 // One turn, with its reading stored.
+#[tactic(auto, unfolding(crate::specs::Puts::puts, crate::specs::Layout::records))]
 fn turn(words: &[u64], s: &[u8], room: usize, walk: Walk, out: &mut [u8]) -> Next
     requires { Roomy room out.old }
     ensures { Turns result out.new words.now s.now room walk out.old }
 {
-    let p = walk.progress;
-    let made = p.made;
+    let made = walk.progress.made;
     let next = reading::next_field(words, s, room, walk);
-    let answer = next.answer;
-    match answer {
-        Answer::Met(r) => {
-            readings::put_reading(out, 8 + 64 * made, r);
-            next
-        }
-        Answer::Skipped(_) => next,
-        Answer::Moved => next,
-        Answer::Ended => next,
-        Answer::Refused(_) => next,
+    match next.answer {
+        Ok(Answer::Met(r)) => readings::put_reading(out, 8 + 64 * made, r),
+        Ok(Answer::Skipped(_) | Answer::Moved | Answer::Ended) | Err(_) => {}
     }
+    next
 }
 
 // The walk through the working payload s, by an accepted table.
@@ -216,13 +210,9 @@ pub(crate) fn store(words: &[u64], s: &[u8], room: usize, out: &mut [u8]) -> Dec
     loop {
         walk = quickly(words, s, room, walk, out);
         let next = turn(words, s, room, walk, out);
-        match reading::came_to(next) {
-            Came::On => {
-                walk = next.walk;
-            }
-            Came::To(decoded) => {
-                return decoded;
-            }
+        if let Some(decoded) = reading::came_to(next) {
+            return decoded;
         }
+        walk = next.walk;
     }
 }

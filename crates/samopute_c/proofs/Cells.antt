@@ -5,26 +5,28 @@ use mathlib.Core.List.{List}
 use Prim.Native.Nat.{ℕ}
 use native.Mathlib.Nat.{le_of_lt}
 use native.Mathlib.Omega.{arith}
+use Rattle.std.specs.Prelude.{Result, Ok, Err}
 use lib.Dec.{eqb}
 use lib.ListN.{length, get_or}
 use borrow.Author.Tests.{ne_eqb}
 use Rattle.bits.specs.Bits.{pick}
+use Rattle.bits.specs.declared.BitPos.{BitPos}
 use Rattle.bits.specs.declared.BitRefusal.TheVariants.{BufferTooLong, TooLongForType, NonAlignedBit, OutOfBits, OutOfBytes}
 use Rattle.tables.specs.Table.{Table}
+use Rattle.fields.specs.declared.DecodeRefusal.{DecodeRefusal}
 use Rattle.fields.specs.declared.DecodeRefusal.TheVariants.{BitReaderError, InvalidDataLength, RepetitionsExceedCapacity, WrongLength, TableRefused, NoRoom}
 use Rattle.fields.specs.Refusals.{touches_nothing_lem}
 use Rattle.fields.proofs.Filled.{length-full}
 use Rattle.reading.specs.declared.Decoded.{Decoded}
-use Rattle.reading.specs.declared.Decoded.TheVariants.{Ended, Refused}
 use Rattle.reading.specs.Filling.{fills, working_of}
 use Rattle.reading.proofs.Working.{filled-lt}
-use Rattle.samopute_c.specs.Decodes.{decoded_status, decoded_cells, cells_of, length_by}
+use Rattle.samopute_c.specs.Decodes.{status_by, decoded_status, cells_by, decoded_cells, cells_of, length_by}
 
 -- ## The length of the working payload
 
-second : (filled : ℕ) (d : Decoded) → get_or (decoded_cells filled d) 1 0 ≡ filled
-second filled (Ended end count) = refl
-second filled (Refused e count) = refl
+second : (count filled : ℕ) (o : Result BitPos DecodeRefusal) → get_or (cells_by count filled o) 1 0 ≡ filled
+second count filled (Ok end) = refl
+second count filled (Err e) = refl
 
 module _ (t : Table) (received : List ℕ) where
   -- a filled payload has the table's length, which is not 0
@@ -39,20 +41,23 @@ module _ (t : Table) (received : List ℕ) where
       → length_by (get_or (cells_of t (length received) d) 1 0) (length received) ≡ length (working_of t received)
   working-length d n =
       let filled = pick (fills t (length received)) t.length 0 in
-      ap (λ (x : ℕ). length_by x (length received)) (second _ d ∙ ap (λ (b : Bool). pick b 0 filled) n) ∙ by (fills t (length received)) refl
+      ap (λ (x : ℕ). length_by x (length received)) (second d.count _ d.end ∙ ap (λ (b : Bool). pick b 0 filled) n) ∙ by (fills t (length received)) refl
 
 -- ## What refusal 2 counts
 
 -- the last cell is 0 exactly where the status is not 2
 pub unit-of-2 : (filled : ℕ) (d : Decoded) → eqb (get_or (decoded_cells filled d) 5 0) 0 ≡ not (eqb (decoded_status d) 2)
-unit-of-2 filled (Ended end count) = refl
-unit-of-2 filled (Refused (BitReaderError field (TooLongForType max asked)) count) = refl
-unit-of-2 filled (Refused (BitReaderError field (OutOfBits asked available)) count) = refl
-unit-of-2 filled (Refused (BitReaderError field (OutOfBytes asked available)) count) = refl
-unit-of-2 filled (Refused (BitReaderError field (NonAlignedBit cursor)) count) = refl
-unit-of-2 filled (Refused (BitReaderError field (BufferTooLong len)) count) = refl
-unit-of-2 filled (Refused (InvalidDataLength field) count) = refl
-unit-of-2 filled (Refused (RepetitionsExceedCapacity set n maximum) count) = refl
-unit-of-2 filled (Refused (WrongLength length) count) = refl
-unit-of-2 filled (Refused (TableRefused rule index) count) = refl
-unit-of-2 filled (Refused (NoRoom field) count) = refl
+unit-of-2 filled d = go d.count d.end
+  where
+    go : (count : ℕ) (o : Result BitPos DecodeRefusal) → eqb (get_or (cells_by count filled o) 5 0) 0 ≡ not (eqb (status_by o) 2)
+    go count (Ok end) = refl
+    go count (Err (BitReaderError field (TooLongForType max asked))) = refl
+    go count (Err (BitReaderError field (OutOfBits asked available))) = refl
+    go count (Err (BitReaderError field (OutOfBytes asked available))) = refl
+    go count (Err (BitReaderError field (NonAlignedBit cursor))) = refl
+    go count (Err (BitReaderError field (BufferTooLong len))) = refl
+    go count (Err (InvalidDataLength field)) = refl
+    go count (Err (RepetitionsExceedCapacity set n maximum)) = refl
+    go count (Err (WrongLength length)) = refl
+    go count (Err (TableRefused rule index)) = refl
+    go count (Err (NoRoom field)) = refl

@@ -5,15 +5,14 @@ ghost use Rattle.samopute_c.specs.Decodes.{decoded_status, decoded_cells, filled
 ghost use Rattle.samopute_c.specs.Clauses.{Tells, Decodes, DecodesPgn};
 
 use reading::Decoded;
-use records::ByPgn;
 
 // 0, or the refusal's number.
 fn status_of(decoded: Decoded) -> u32
     ensures { result ≡ decoded_status decoded }
 {
-    match decoded {
-        Decoded::Ended { end: _, count: _ } => 0,
-        Decoded::Refused { refusal, count: _ } => refusal.number(),
+    match decoded.end {
+        Ok(_) => 0,
+        Err(refusal) => refusal.number(),
     }
 }
 
@@ -31,18 +30,18 @@ fn filled_by(status: u32, filled: bool, to: usize) -> u64
 fn tell_decoded(answer: &mut [u64; 6], filled: u64, decoded: Decoded)
     ensures { answer.new ≡ decoded_cells filled decoded }
 {
-    match decoded {
-        Decoded::Ended { end, count } => {
-            let to = end.0;
-            *answer = [count as u64, filled, to as u64, 0, 0, 0];
+    let count = decoded.count as u64;
+    match decoded.end {
+        Ok(end) => {
+            *answer = [count, filled, end.0 as u64, 0, 0, 0];
         }
-        Decoded::Refused { refusal, count } => {
+        Err(refusal) => {
             let first = refusal.carried(0);
             let second = refusal.carried(1);
             let third = refusal.carried(2);
             let unit = refusal.unit();
             *answer = [
-                count as u64,
+                count,
                 filled,
                 first as u64,
                 second as u64,
@@ -93,11 +92,11 @@ pub fn samopute_decode_pgn(
     ensures { DecodesPgn result padding.new readings.new answer.new pgn payload.now padding.old readings.old }
 {
     match records::decode_pgn_into(pgn, payload, padding, readings) {
-        ByPgn::Known(decoded) => {
+        Some(decoded) => {
             tell_decoded(answer, 0, decoded);
             status_of(decoded)
         }
-        ByPgn::Unknown => {
+        None => {
             *answer = [0, 0, pgn as u64, 0, 0, 0];
             15
         }

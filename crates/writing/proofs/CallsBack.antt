@@ -9,8 +9,7 @@ use lib.ListN.{length, take}
 use Rattle.bits.specs.Calls.{bytes}
 use Rattle.tables.specs.Table.{Table, table_of}
 use Rattle.tables.specs.Check.{payload_max}
-use Rattle.reading.specs.declared.Decoded.TheVariants as decoded
-use Rattle.reading.specs.Decode.{decoded_of_lem}
+use Rattle.reading.specs.Decode.{decoded_of_lem, ended_at}
 use Rattle.reading.specs.Demand3.{unskipped_in, room_enough_lem}
 use Rattle.reading.proofs.for_each_field.Reads as for-each-field
 use Rattle.offers.specs.Records.{values_in}
@@ -33,7 +32,7 @@ call-reads-back κs a x s p n e values texts =
 -- then `for_each_field`, by the same words: of what was received, a padding run of 223 bytes and room for 1,785 readings
 pub then-read : Says for-each-field.Post (λ κs a x s. (t : Table) (values lent buffer : List ℕ) (n : ℕ) (r : ReadsBack t (values_in values) lent buffer n)
     → table_of a.0.now ≡ t → a.1.0.now ≡ take n (buffer_after t (values_in values) lent buffer) → length a.1.1.0.now ≡ payload_max → room_enough_lem ≤ a.1.1.1.0
-    → x ≡ decoded.Ended r.end.at (unskipped_in t (spans_in r.marks)))
+    → x ≡ ended_at r.end.at (unskipped_in t (spans_in r.marks)))
 then-read κs a x s p t values lent buffer n r same got run room =
     p.0
     ∙ ap₂ (λ (u : Table) (l : List ℕ). decoded_of_lem u l (length a.1.1.0.now) a.1.1.1.0) same got

@@ -27,9 +27,8 @@ use Rattle.fields.specs.Payload.{Payload, payload_of}
 use Rattle.fields.specs.Shapes.{shape_of}
 use Rattle.reading.specs.declared.Span.{Span}
 use Rattle.reading.specs.declared.Progress.{Progress}
-use Rattle.reading.specs.declared.Decoded.TheVariants as decoded
 use Rattle.reading.specs.Filling.{working_of, prepared_of}
-use Rattle.reading.specs.Decode.{progress_at, walk_of, reading_of, readings, spans_of, decoded_in, decoded_of_lem, read_into, readings_of}
+use Rattle.reading.specs.Decode.{progress_at, walk_of, reading_of, readings, spans_of, decoded_in, decoded_of_lem, read_into, readings_of, ended_at}
 use Rattle.reading.specs.Decode as decode
 use Rattle.reading.specs.Demand3.{total, unskipped, unskipped_in, room_enough_lem}
 use Rattle.reading.proofs.Spans.{sum}
@@ -92,10 +91,10 @@ module _ (t : Table) (ok : check_of t ≡ Ok tt) (received : List ℕ) (short : 
   working = payload_of (working_of t received)
 
   -- a walk that ran is the decode's answer and its readings
-  answers : (vs : List Span) (s : Progress) → walk_of t working room ≡ ran vs s → decoded_of_lem t received payload_max room ≡ decoded.Ended s.at (unskipped_in t vs)
+  answers : (vs : List Span) (s : Progress) → walk_of t working room ≡ ran vs s → decoded_of_lem t received payload_max room ≡ ended_at s.at (unskipped_in t vs)
   answers vs s e =
       ap (λ (a : Result (Unit {0}) DecodeRefusal). decoded_in a t working room) (ready t ok (length received) short) ∙ ap (decode.end_of t working) e
-      ∙ ap (decoded.Ended s.at) (count-unskipped t working vs)
+      ∙ ap (ended_at s.at) (count-unskipped t working vs)
 
   reads_all : (vs : List Span) (s : Progress) → walk_of t working room ≡ ran vs s → readings_of t received payload_max room ≡ readings t working vs
   reads_all vs s e =

@@ -14,9 +14,8 @@ use Rattle.walking.specs.Runs.{ran}
 use Rattle.fields.specs.Payload.{Payload, payload_of}
 use Rattle.reading.specs.declared.Reading.{Reading}
 use Rattle.reading.specs.declared.Span.{Span}
-use Rattle.reading.specs.declared.Decoded.TheVariants as decoded
 use Rattle.reading.specs.Filling.{working_of}
-use Rattle.reading.specs.Decode.{progress_at, walk_of, reading_of, readings, decoded_of_lem, readings_of}
+use Rattle.reading.specs.Decode.{progress_at, walk_of, reading_of, readings, decoded_of_lem, readings_of, ended_at}
 use Rattle.reading.specs.Demand3.{unskipped_in, room_enough_lem}
 use Rattle.offers.specs.Values.{Values}
 use Rattle.offers.specs.declared.Offer.{Offer}
@@ -74,7 +73,7 @@ pub record ReadBack (t : Table) (lent received : List ℕ) (room : ℕ) (ms : Li
   -- the same fields, elements and spans, ending where encode ended
   pub walks : walk_of t (payload_of (working_of t received)) room ≡ ran (spans_in ms) (progress_at s.at.0 (unskipped_in t (spans_in ms)) s.counters)
   -- so answers a decode ..
-  pub decodes : decoded_of_lem t received payload_max room ≡ decoded.Ended s.at (unskipped_in t (spans_in ms))
+  pub decodes : decoded_of_lem t received payload_max room ≡ ended_at s.at (unskipped_in t (spans_in ms))
   -- .. whose readings are these
   pub reads : readings_of t received payload_max room ≡ readings t (payload_of (working_of t received)) (spans_in ms)
   -- each of what was written there

@@ -1,13 +1,16 @@
 -- Case by case.
 use mathlib.Core.Path.{sym, ap}
+use Rattle.std.specs.Prelude.{Result}
+use Rattle.bits.specs.declared.BitPos.{BitPos}
+use Rattle.fields.specs.declared.DecodeRefusal.{DecodeRefusal}
 use Rattle.text.proofs.Sheets.{then, same}
-use Rattle.readcalls.specs.Lines.{last_line_lem}
+use Rattle.readcalls.specs.Lines.{last_line_by}
 use Rattle.readcalls.proofs.answers.put_decoded.Goals as goal
 
-pub returns-in-Ended : goal.returns-in-Ended
-unfolding last_line_lem
-returns-in-Ended c = same (sym (ap last_line_lem c.in-Ended.is)) (then c.put-a.ensures (then (then c.put_number-b.ensures c.put_number-c.ensures) c.put.ensures))
+pub returns-in-Ok : goal.returns-in-Ok
+unfolding last_line_by
+returns-in-Ok c = same (sym (ap (λ (o : Result BitPos DecodeRefusal). last_line_by o c.args.d.count) c.in-Ok.is)) (then c.put-a.ensures (then (then c.put_number-b.ensures c.put_number-c.ensures) c.put.ensures))
 
-pub returns-in-Refused : goal.returns-in-Refused
-unfolding last_line_lem
-returns-in-Refused c = same (sym (ap last_line_lem c.in-Refused.is)) c.put_refusal.ensures
+pub returns-in-Err : goal.returns-in-Err
+unfolding last_line_by
+returns-in-Err c = same (sym (ap (λ (o : Result BitPos DecodeRefusal). last_line_by o c.args.d.count) c.in-Err.is)) c.put_refusal.ensures

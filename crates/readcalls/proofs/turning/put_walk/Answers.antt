@@ -8,21 +8,21 @@ use Rattle.frame_lines.proofs.Walked.{Printed, begins, goes, ended}
 use Rattle.readcalls.specs.Lines.{reading_line}
 use Rattle.readcalls.proofs.turning.put_walk.Goals as goal
 
-pub loop-walk-init : goal.loop-walk-init
-loop-walk-init c =
+pub loop-decoded-init : goal.loop-decoded-init
+loop-decoded-init c =
     let t = table_of c.args.words.now in
     let p = payload_of c.args.s.now in
     (c.requires, (refl, subst (λ (w : Walk). Printed reading_line t p c.args.room c.args.out.now c.args.at c.args.out.now c.args.at w) (sym c.start-walk.ensures) (begins reading_line t p c.args.room c.args.out.now c.args.at)))
 
-pub loop-walk-smaller : goal.loop-walk-smaller
-loop-walk-smaller c = ((leaves _ _ _ c.loop-walk.invariant.0 c.loop-walk.invariant.1.1.going c.next_field-next.ensures).on (goes-on c.next_field-next.result c.came_to.ensures c.in-On.is)).less
+pub loop-decoded-smaller : goal.loop-decoded-smaller
+loop-decoded-smaller c = ((leaves _ _ _ c.loop-decoded.invariant.0 c.loop-decoded.invariant.1.1.going c.next_field-next.ensures).on (goes-on c.next_field-next.result c.came_to.ensures c.in_default.is)).less
 
-pub loop-walk-preserved : goal.loop-walk-preserved
-loop-walk-preserved c = (c.loop-walk.invariant.0, (c.put_turn-to.auto.out ∙ c.loop-walk.invariant.1.0, goes reading_line _ _ _ c.loop-walk.invariant.1.1 (leaves _ _ _ c.loop-walk.invariant.0 c.loop-walk.invariant.1.1.going c.next_field-next.ensures) (goes-on c.next_field-next.result c.came_to.ensures c.in-On.is) c.put_turn-to.ensures))
+pub loop-decoded-preserved : goal.loop-decoded-preserved
+loop-decoded-preserved c = (c.loop-decoded.invariant.0, (c.put_turn-to.auto.out ∙ c.loop-decoded.invariant.1.0, goes reading_line _ _ _ c.loop-decoded.invariant.1.1 (leaves _ _ _ c.loop-decoded.invariant.0 c.loop-decoded.invariant.1.1.going c.next_field-next.ensures) (goes-on c.next_field-next.result c.came_to.ensures c.in_default.is) c.put_turn-to.ensures))
 
-pub returns-in-To : goal.returns-in-To
-returns-in-To c =
-    let left = leaves _ _ _ c.loop-walk.invariant.0 c.loop-walk.invariant.1.1.going c.next_field-next.ensures in
-    let came = sym c.came_to.ensures ∙ c.in-To.is in
+pub returns-in-Some : goal.returns-in-Some
+returns-in-Some c =
+    let left = leaves _ _ _ c.loop-decoded.invariant.0 c.loop-decoded.invariant.1.1.going c.next_field-next.ensures in
+    let came = sym c.came_to.ensures ∙ c.in-Some.is in
     let last = came-last c.next_field-next.result.answer c.next_field-next.result.walk.progress _ came in
-    (ended reading_line _ _ _ c.loop-walk.invariant.1.1 left last c.put_turn-to.ensures, sym (comes-to _ _ _ c.loop-walk.invariant.0 c.loop-walk.walk c.loop-walk.invariant.1.1.going c.next_field-next.result left _ came))
+    (ended reading_line _ _ _ c.loop-decoded.invariant.1.1 left last c.put_turn-to.ensures, sym (comes-to _ _ _ c.loop-decoded.invariant.0 c.loop-decoded.walk c.loop-decoded.invariant.1.1.going c.next_field-next.result left _ came))

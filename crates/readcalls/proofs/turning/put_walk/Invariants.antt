@@ -10,8 +10,8 @@ use Rattle.frame_lines.proofs.Walked.{Printed}
 use Rattle.readcalls.specs.Lines.{reading_line}
 use Rattle.readcalls.proofs.turning.put_walk.Given as goal
 
-abbrev pub invariant-loop-walk : goal.invariant-loop-walk
-invariant-loop-walk l = (check_of (table_of l.words) ≡ Ok tt) × ((length l.out ≡ length l.initial.out) × Printed reading_line (table_of l.words) (payload_of l.s) l.room l.initial.out l.at l.out l.to l.walk)
+abbrev pub invariant-loop-decoded : goal.invariant-loop-decoded
+invariant-loop-decoded l = (check_of (table_of l.words) ≡ Ok tt) × ((length l.out ≡ length l.initial.out) × Printed reading_line (table_of l.words) (payload_of l.s) l.room l.initial.out l.at l.out l.to l.walk)
 
-abbrev pub decreases-loop-walk : goal.decreases-loop-walk
-decreases-loop-walk l = heft (table_of l.words) (payload_of l.s) l.room l.walk
+abbrev pub decreases-loop-decoded : goal.decreases-loop-decoded
+decreases-loop-decoded l = heft (table_of l.words) (payload_of l.s) l.room l.walk

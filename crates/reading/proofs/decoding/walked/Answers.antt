@@ -6,17 +6,17 @@ use Rattle.reading.specs.declared.Walk.{Walk}
 use Rattle.reading.proofs.Looped.{Going, going, goes-on, leaves, comes-to}
 use Rattle.reading.proofs.decoding.walked.Goals as goal
 
-pub loop-walk-init : goal.loop-walk-init
-loop-walk-init c =
+pub loop-decoded-init : goal.loop-decoded-init
+loop-decoded-init c =
     let t = table_of c.args.words.now in
     let p = payload_of c.args.s.now in
     (c.requires, subst (λ (w : Walk). Going t p c.args.room w) (sym c.start-walk.ensures) (going t p c.args.room))
 
-pub loop-walk-smaller : goal.loop-walk-smaller
-loop-walk-smaller c = ((leaves _ _ _ c.loop-walk.invariant.0 c.loop-walk.invariant.1 c.next_field-next.ensures).on (goes-on c.next_field-next.result c.came_to.ensures c.in-On.is)).less
+pub loop-decoded-smaller : goal.loop-decoded-smaller
+loop-decoded-smaller c = ((leaves _ _ _ c.loop-decoded.invariant.0 c.loop-decoded.invariant.1 c.next_field-next.ensures).on (goes-on c.next_field-next.result c.came_to.ensures c.in_default.is)).less
 
-pub loop-walk-preserved : goal.loop-walk-preserved
-loop-walk-preserved c = (c.loop-walk.invariant.0, ((leaves _ _ _ c.loop-walk.invariant.0 c.loop-walk.invariant.1 c.next_field-next.ensures).on (goes-on c.next_field-next.result c.came_to.ensures c.in-On.is)).still)
+pub loop-decoded-preserved : goal.loop-decoded-preserved
+loop-decoded-preserved c = (c.loop-decoded.invariant.0, ((leaves _ _ _ c.loop-decoded.invariant.0 c.loop-decoded.invariant.1 c.next_field-next.ensures).on (goes-on c.next_field-next.result c.came_to.ensures c.in_default.is)).still)
 
-pub returns-in-To : goal.returns-in-To
-returns-in-To c = sym (comes-to _ _ _ c.loop-walk.invariant.0 c.loop-walk.walk c.loop-walk.invariant.1 c.next_field-next.result (leaves _ _ _ c.loop-walk.invariant.0 c.loop-walk.invariant.1 c.next_field-next.ensures) _ (sym c.came_to.ensures ∙ c.in-To.is))
+pub returns-in-Some : goal.returns-in-Some
+returns-in-Some c = sym (comes-to _ _ _ c.loop-decoded.invariant.0 c.loop-decoded.walk c.loop-decoded.invariant.1 c.next_field-next.result (leaves _ _ _ c.loop-decoded.invariant.0 c.loop-decoded.invariant.1 c.next_field-next.ensures) _ (sym c.came_to.ensures ∙ c.in-Some.is))

@@ -7,8 +7,8 @@ use Rattle.tables.specs.Check.{check_of}
 use Rattle.reading.proofs.Looped.{Going, heft}
 use Rattle.reading.proofs.decoding.walked.Given as goal
 
-abbrev pub invariant-loop-walk : goal.invariant-loop-walk
-invariant-loop-walk l = (check_of (table_of l.words) ≡ Ok tt) × Going (table_of l.words) (payload_of l.s) l.room l.walk
+abbrev pub invariant-loop-decoded : goal.invariant-loop-decoded
+invariant-loop-decoded l = (check_of (table_of l.words) ≡ Ok tt) × Going (table_of l.words) (payload_of l.s) l.room l.walk
 
-abbrev pub decreases-loop-walk : goal.decreases-loop-walk
-decreases-loop-walk l = heft (table_of l.words) (payload_of l.s) l.room l.walk
+abbrev pub decreases-loop-decoded : goal.decreases-loop-decoded
+decreases-loop-decoded l = heft (table_of l.words) (payload_of l.s) l.room l.walk

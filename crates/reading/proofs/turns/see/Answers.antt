@@ -3,8 +3,8 @@ use mathlib.Core.Path.{◌≡◌, sym, ap, ap₂, ◌∙◌}
 use mathlib.Core.Bool.{Bool}
 use mathlib.Core.List.{List}
 use Prim.Native.Nat.{ℕ, ◌+◌}
+use Rattle.std.specs.Prelude.{Ok, Result}
 use native.Mathlib.Omega.{arith}
-use Rattle.std.specs.Prelude.{Result, Ok}
 use Rattle.tables.specs.Table.{table_of}
 use Rattle.fields.specs.declared.DecodeRefusal.{DecodeRefusal}
 use Rattle.fields.specs.declared.FieldRead.{FieldRead}
@@ -43,7 +43,7 @@ returns-then-made-room c =
     let t = table_of c.args.words.now in
     let p = payload_of c.args.s.now in
     c.next.ensures
-    ∙ ap₂ (λ (r : Reading) (cs : List ℕ). next_to (Met r) c.args.to (progress_at (c.args.p.at.0 + c.in-Ok-Got.bits.0) (c.args.p.made + 1) cs)) c.reading_of-reading.ensures c.noted_by-counters.ensures
+    ∙ ap₂ (λ (r : Reading) (cs : List ℕ). next_to (Ok (Met r)) c.args.to (progress_at (c.args.p.at.0 + c.in-Ok-Got.bits.0) (c.args.p.made + 1) cs)) c.reading_of-reading.ensures c.noted_by-counters.ensures
     ∙ see-met t p c.args.room c.args.here c.args.to c.args.i c.args.e c.args.last c.args.p c.in-Ok-Got.bits c.in-Ok-Got.raw c.in-Ok-Got.value (was _ _ _ _ c.field_at-f.ensures c.read_field_raw_and_value.ensures (c.in-Ok-Got.is ∙ ap Ok c.in-Ok-Got.field-0-is)) c.if-made-room.true
 
 pub returns-else-made-room : goal.returns-else-made-room

@@ -4,9 +4,10 @@ use Prim.Native.Nat.{ℕ}
 use lib.ListN.{length}
 use Rattle.tables.specs.Table.{table_of}
 use Rattle.fields.specs.Payload.{payload_of}
+use Rattle.reading.specs.declared.Decoded.{Decoded}
 use Rattle.reading.specs.Decode.{walk_of, readings, spans_of, end_of}
 use Rattle.records.specs.Layout.{room_in_lem}
-use Rattle.records.specs.Stretches.{stored, count_in_lem, counted}
+use Rattle.records.specs.Stretches.{stored, counted}
 use Rattle.reading.proofs.Seated.{few}
 use Rattle.records.proofs.Counting.{count-end, stored-in}
 use Rattle.records.proofs.into.walked.Goals as goal
@@ -21,6 +22,6 @@ returns c =
       ended,
       c.put_count.ensures
           ∙ ap₂ counted (c.store-decoded.ensures.1 ∙ ap (λ (k : ℕ). stored c.args.out.now 0 (readings t p (spans_of (walk_of t p k)))) c.room_in-room.ensures)
-          (c.count_in.ensures ∙ ap count_in_lem ended ∙ count-end t p (walk_of t p room))
+          (ap (λ (d : Decoded). d.count) ended ∙ count-end t p (walk_of t p room))
           ∙ stored-in rs c.args.out.now (few t p room),
     )

@@ -7,7 +7,7 @@ use Rattle.tables.specs.Check.{check_of}
 use Rattle.messages.proofs.Accepted.{accepted, no-minimum}
 use Rattle.records.proofs.pgns.decode_pgn_into.Goals as goal
 
-pub known-decoded-requires : goal.known-decoded-requires
-known-decoded-requires c =
+pub known-requires : goal.known-requires
+known-requires c =
     let told = c.table.ensures in
-    (ap (λ (ws : List ℕ). check_of (table_of ws)) told ∙ accepted c.in-Some.message, ap (λ (ws : List ℕ). (table_of ws).minimum) told ∙ no-minimum c.in-Some.message)
+    (ap (λ (ws : List ℕ). check_of (table_of ws)) told ∙ accepted c.in_ok-message.message, ap (λ (ws : List ℕ). (table_of ws).minimum) told ∙ no-minimum c.in_ok-message.message)

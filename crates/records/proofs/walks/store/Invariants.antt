@@ -9,8 +9,8 @@ use Rattle.records.specs.Stretches.{Roomy}
 use Rattle.records.proofs.Storing.{Storing}
 use Rattle.records.proofs.walks.store.Given as goal
 
-abbrev pub invariant-loop-walk : goal.invariant-loop-walk
-invariant-loop-walk l = (check_of (table_of l.words) ≡ Ok tt) × (Roomy l.room l.out × Storing (table_of l.words) (payload_of l.s) l.room l.initial.out l.walk l.out)
+abbrev pub invariant-loop-decoded : goal.invariant-loop-decoded
+invariant-loop-decoded l = (check_of (table_of l.words) ≡ Ok tt) × (Roomy l.room l.out × Storing (table_of l.words) (payload_of l.s) l.room l.initial.out l.walk l.out)
 
-abbrev pub decreases-loop-walk : goal.decreases-loop-walk
-decreases-loop-walk l = heft (table_of l.words) (payload_of l.s) l.room l.walk
+abbrev pub decreases-loop-decoded : goal.decreases-loop-decoded
+decreases-loop-decoded l = heft (table_of l.words) (payload_of l.s) l.room l.walk
