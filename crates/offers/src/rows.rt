@@ -58,11 +58,7 @@ fn record_at(s: &[u8], q: usize) -> Offer
 pub fn offer_count(values: &[u8]) -> usize
     ensures { result ≡ (values_in values.now).count }
 {
-    let whole = values.len() / RECORD_BYTES;
-    if values.len() % RECORD_BYTES == 0 {
-        return whole;
-    }
-    whole + 1
+    values.len().div_ceil(RECORD_BYTES)
 }
 
 // What stands at place j among the values.

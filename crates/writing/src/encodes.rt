@@ -13,11 +13,7 @@ use weighing::EncodeRefusal;
 pub fn bytes_used(at: BitPos) -> ByteCount
     ensures { result ≡ bytes ((at.0 + 7) / 8) }
 {
-    let whole = at.0 / 8;
-    if at.0 % 8 == 0 {
-        return ByteCount(whole);
-    }
-    ByteCount(whole + 1)
+    ByteCount(at.0.div_ceil(8))
 }
 
 // The walk, by an accepted table, through a buffer of ones.

@@ -95,20 +95,20 @@ fn content_of(
     }
 }
 
-// Field i, in element e; the walk then goes on at `to`. `here` is the spot that it stands at.
+// Field i, in element e; the walk then goes on at `to`.
 fn meet(
     words: &[u64],
     lent: usize,
     size: usize,
     offer: Offer,
+    draft: Draft,
     i: usize,
     e: Option<usize>,
-    pen: Pen,
     to: Spot,
-    here: Spot,
 ) -> Weighing
-    ensures { result ≡ weighing_at (table_of words.now) offer lent size here pen (look.Meet i e false to) }
+    ensures { result ≡ weighing_at (table_of words.now) offer lent size draft.spot draft.pen (look.Meet i e false to) }
 {
+    let pen = draft.pen;
     let f = tables::field_at(words, i);
     match content_of(offer, f, i, lent, size, pen.at) {
         Ok(weighed) => {
@@ -127,7 +127,7 @@ fn meet(
             }
         }
         Err(refusal) => Weighing {
-            stroked: stroked(Err(refusal), here, pen),
+            stroked: stroked(Err(refusal), draft.spot, pen),
             content: Err(refusal),
         },
     }
@@ -145,15 +145,14 @@ fn unmet(stroked: Stroked) -> Weighing
 }
 
 // Into set k, if it has not too many elements.
-fn enter(words: &[u64], offer: Offer, k: usize, pen: Pen, here: Spot) -> Stroked
-    ensures { Enters result words.now offer k pen here }
+fn enter(words: &[u64], offer: Offer, k: usize, draft: Draft) -> Stroked
+    ensures { Enters result words.now offer k draft.pen draft.spot }
 {
-    let cs = pen.counters;
-    let raw = reading::counter_at(cs, k);
+    let pen = draft.pen;
+    let raw = reading::counter_at(pen.counters, k);
     let set = tables::set_at(words, k);
-    let counter = set.counter;
     let maximum = set.maximum;
-    let f = tables::field_at(words, counter);
+    let f = tables::field_at(words, set.counter);
     let n = numbers::counter_elements(raw, f.width) as usize;
     if n <= maximum {
         let to = Spot::Within {
@@ -169,7 +168,7 @@ fn enter(words: &[u64], offer: Offer, k: usize, pen: Pen, here: Spot) -> Stroked
         count: n,
         maximum,
     };
-    stroked(Err(too_many), here, pen)
+    stroked(Err(too_many), draft.spot, pen)
 }
 
 // At the end: left-over values are 12, with the field count.
@@ -188,18 +187,16 @@ fn end_of(words: &[u64], offer: Offer) -> Result<Stroke, EncodeRefusal>
 pub fn weigh_next(words: &[u64], lent: usize, size: usize, draft: Draft, offer: Offer) -> Weighing
     ensures { result ≡ weighing_of (table_of words.now) offer lent size draft }
 {
-    let here = draft.spot;
-    let pen = draft.pen;
-    match walking::look_at(words, here) {
-        Look::End => unmet(stroked(end_of(words, offer), here, pen)),
-        Look::Pass(to) => unmet(stroked(Ok(Stroke::Moved), to, pen)),
-        Look::Enter(k) => unmet(enter(words, offer, k, pen, here)),
+    match walking::look_at(words, draft.spot) {
+        Look::End => unmet(stroked(end_of(words, offer), draft.spot, draft.pen)),
+        Look::Pass(to) => unmet(stroked(Ok(Stroke::Moved), to, draft.pen)),
+        Look::Enter(k) => unmet(enter(words, offer, k, draft)),
         Look::Meet {
             field,
             element,
             last: _,
             to,
-        } => meet(words, lent, size, offer, field, element, pen, to, here),
+        } => meet(words, lent, size, offer, draft, field, element, to),
     }
 }
 

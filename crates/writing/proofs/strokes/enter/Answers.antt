@@ -25,18 +25,18 @@ returns-then-n-maximum c =
     let a = c.args in
     let t = table_of a.words.now in
     let n = c.counter_elements-n.result in
-    let e = counted t a.k a.pen c.set_at-set.ensures c.field_at-f.ensures c.counter_at-raw.ensures c.counter_elements-n.ensures in
+    let e = counted t a.k a.draft.pen c.set_at-set.ensures c.field_at-f.ensures c.counter_at-raw.ensures c.counter_elements-n.ensures in
     c.stroked.ensures
-    ∙ enters t a.offer a.here 0 0 a.k n a.pen (subst (λ (g : RepeatingFieldSet). n ≤ g.maximum) c.set_at-set.ensures c.if-n-maximum.true)
-    ∙ ap (λ (m : ℕ). shown t a.offer a.here (enter_with t (one_of t (λ (j : ℕ). a.offer) 0 0) (count_of t) too_many a.k m a.pen)) e
+    ∙ enters t a.offer a.draft.spot 0 0 a.k n a.draft.pen (subst (λ (g : RepeatingFieldSet). n ≤ g.maximum) c.set_at-set.ensures c.if-n-maximum.true)
+    ∙ ap (λ (m : ℕ). shown t a.offer a.draft.spot (enter_with t (one_of t (λ (j : ℕ). a.offer) 0 0) (count_of t) too_many a.k m a.draft.pen)) e
 
 pub returns : goal.returns
 returns c =
     let a = c.args in
     let t = table_of a.words.now in
     let n = c.counter_elements-n.result in
-    let e = counted t a.k a.pen c.set_at-set.ensures c.field_at-f.ensures c.counter_at-raw.ensures c.counter_elements-n.ensures in
+    let e = counted t a.k a.draft.pen c.set_at-set.ensures c.field_at-f.ensures c.counter_at-raw.ensures c.counter_elements-n.ensures in
     c.stroked-2.ensures
-    ∙ ap (λ (g : RepeatingFieldSet). stroked_to (Err (too_many a.k n g.maximum)) a.here a.pen) c.set_at-set.ensures
-    ∙ exceeds t a.offer a.here 0 0 a.k n a.pen (subst (λ (g : RepeatingFieldSet). g.maximum < n) c.set_at-set.ensures c.if-n-maximum.false)
-    ∙ ap (λ (m : ℕ). shown t a.offer a.here (enter_with t (one_of t (λ (j : ℕ). a.offer) 0 0) (count_of t) too_many a.k m a.pen)) e
+    ∙ ap (λ (g : RepeatingFieldSet). stroked_to (Err (too_many a.k n g.maximum)) a.draft.spot a.draft.pen) c.set_at-set.ensures
+    ∙ exceeds t a.offer a.draft.spot 0 0 a.k n a.draft.pen (subst (λ (g : RepeatingFieldSet). g.maximum < n) c.set_at-set.ensures c.if-n-maximum.false)
+    ∙ ap (λ (m : ℕ). shown t a.offer a.draft.spot (enter_with t (one_of t (λ (j : ℕ). a.offer) 0 0) (count_of t) too_many a.k m a.draft.pen)) e

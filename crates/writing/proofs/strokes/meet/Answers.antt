@@ -26,26 +26,26 @@ weighed o i lent size at e h = e ∙ ap (λ (d : FieldDescriptor). content_of_le
 pub pen_after-after-requires : goal.pen_after-after-requires
 pen_after-after-requires c =
     let a = c.args in
-    let was = weighed a.offer a.i a.lent a.size a.pen.at.0 (sym c.in-Ok.is ∙ c.content_of.ensures) c.field_at-f.ensures in
-    subst (λ (x : Result Weighed EncodeRefusal). Reaches a.pen.at.0 x) (sym was) (content-in a.size a.pen.at.0 a.lent a.offer ((table_of a.words.now).field a.i) a.i)
+    let was = weighed a.offer a.i a.lent a.size a.draft.pen.at.0 (sym c.in-Ok.is ∙ c.content_of.ensures) c.field_at-f.ensures in
+    subst (λ (x : Result Weighed EncodeRefusal). Reaches a.draft.pen.at.0 x) (sym was) (content-in a.size a.draft.pen.at.0 a.lent a.offer ((table_of a.words.now).field a.i) a.i)
 
 pub returns-in-Ok : goal.returns-in-Ok
 returns-in-Ok c =
     let a = c.args in
     let t = table_of a.words.now in
     let content : Result Weighed EncodeRefusal = Ok c.in-Ok.weighed in
-    let was = weighed a.offer a.i a.lent a.size a.pen.at.0 (sym c.in-Ok.is ∙ c.content_of.ensures) c.field_at-f.ensures in
-    let stroke = c.stroke_of-stroke.ensures ∙ ap (λ (b : BitPos). stroke_by content (record { field = a.i; element = a.e; start = a.pen.at; bits = b })) c.size_of-bits.ensures in
+    let was = weighed a.offer a.i a.lent a.size a.draft.pen.at.0 (sym c.in-Ok.is ∙ c.content_of.ensures) c.field_at-f.ensures in
+    let stroke = c.stroke_of-stroke.ensures ∙ ap (λ (b : BitPos). stroke_by content (record { field = a.i; element = a.e; start = a.draft.pen.at; bits = b })) c.size_of-bits.ensures in
     ap (λ (k : Stroked). weighing_to k content)
     (c.stroked.ensures ∙ ap₂ (λ (k : Result Stroke EncodeRefusal) (v : Pen). stroked_to k a.to v) stroke c.pen_after-after.ensures
-    ∙ settled-shown t a.offer a.here a.i a.e a.pen a.to content)
-    ∙ ap (λ (v : Result Weighed EncodeRefusal). weighing_to (shown t a.offer a.here (seen a.to a.pen (settled t a.i a.e a.pen v))) v) was
+    ∙ settled-shown t a.offer a.draft.spot a.i a.e a.draft.pen a.to content)
+    ∙ ap (λ (v : Result Weighed EncodeRefusal). weighing_to (shown t a.offer a.draft.spot (seen a.to a.draft.pen (settled t a.i a.e a.draft.pen v))) v) was
 
 pub returns-in-Err : goal.returns-in-Err
 returns-in-Err c =
     let a = c.args in
     let t = table_of a.words.now in
     let content : Result Weighed EncodeRefusal = Err c.in-Err.refusal in
-    let was = weighed a.offer a.i a.lent a.size a.pen.at.0 (sym c.in-Err.is ∙ c.content_of.ensures) c.field_at-f.ensures in
-    ap (λ (k : Stroked). weighing_to k content) (c.stroked-in-Err.ensures ∙ settled-shown t a.offer a.here a.i a.e a.pen a.to content)
-    ∙ ap (λ (v : Result Weighed EncodeRefusal). weighing_to (shown t a.offer a.here (seen a.to a.pen (settled t a.i a.e a.pen v))) v) was
+    let was = weighed a.offer a.i a.lent a.size a.draft.pen.at.0 (sym c.in-Err.is ∙ c.content_of.ensures) c.field_at-f.ensures in
+    ap (λ (k : Stroked). weighing_to k content) (c.stroked-in-Err.ensures ∙ settled-shown t a.offer a.draft.spot a.i a.e a.draft.pen a.to content)
+    ∙ ap (λ (v : Result Weighed EncodeRefusal). weighing_to (shown t a.offer a.draft.spot (seen a.to a.draft.pen (settled t a.i a.e a.draft.pen v))) v) was
