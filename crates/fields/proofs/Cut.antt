@@ -37,7 +37,7 @@ binary w s h = go (eqb (w % 8) 0) refl s h
     go true e s h = absurd (false≢true s)
     go false e s h =
         let l = leb-true w 63 h in
-        let none : w ≡ 0 → ⊥ = λ z. let y : ◌≡◌ {A = Bool} true false = sym (ap (λ (n : ℕ). eqb (n % 8) 0) z) ∙ e in let q : ◌≡◌ {A = ℕ} 0 1 = cc in omega arith in
+        let none : w ≡ 0 → ⊥ = λ z. let y : ◌≡◌ {A = Bool} true false = sym (ap (λ (n : ℕ). eqb (n % 8) 0) z) ∙ e in cc in
         (some w none, omega (arith, l))
 
 pub bits-width : (k : FieldKind) (w : ℕ) → in_bits (shape_by k w) ≡ true → width_fits_lem (class_of_lem k) w ≡ true → (1 ≤ w) × (w ≤ 64)

@@ -81,8 +81,8 @@ number_fits p i early w at n sh strict q e = go strict (room_at p at w) refl (ap
     go : (b : Bool) (r : Room) → room_at p at w ≡ r → short_of b i r (Ok w) ≡ Ok n → Fitting p.size at n width_max
     go true room.Fits h g = let y : w ≡ n = cc in subst (λ (m : ℕ). Fitting p.size at m width_max) y (fitting p.size at w width_max h)
     go false room.Fits h g = let y : w ≡ n = cc in subst (λ (m : ℕ). Fitting p.size at m width_max) y (fitting p.size at w width_max h)
-    go true (room.Refused x) h g = let z : ◌≡◌ {A = ℕ} 0 1 = cc in absurd (omega arith)
-    go false (room.Refused x) h g = let z : ◌≡◌ {A = ℕ} 0 1 = cc in absurd (omega arith)
+    go true (room.Refused x) h g = cc
+    go false (room.Refused x) h g = cc
 
 -- over what was received, and over it with one number, at v, changed to the bits of x: `for_each_field` answers the same end and count, and
 -- `next_field` hands out the same readings but the one at v, which stands there still and has x's bits as its raw

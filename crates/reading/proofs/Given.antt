@@ -5,7 +5,6 @@ use mathlib.Core.Bool.{Bool, true, false, ◌||◌, false≢true}
 use mathlib.Core.List.{List}
 use mathlib.Core.Logic.{◌⊎◌, ⊎_elim}
 use Prim.Native.Nat.{ℕ, ◌≤◌}
-use native.Mathlib.Omega.{arith}
 use lib.Dec.{eqb, ltb}
 use lib.ListN.{length}
 use borrow.Author.Tests.{eqb-true}
@@ -59,7 +58,7 @@ prepared-spares t received padded f h = go (ltb payload_max received) (eqb padde
         → pick a (Err (WrongLength (bytes received))) (pick b (by_check c) (Err (WrongLength (bytes padded)))) ≡ Err f → Spares f
     go true b c e = let k : WrongLength (bytes received) ≡ f = cc in subst Spares k refl
     go false false c e = let k : WrongLength (bytes padded) ≡ f = cc in subst Spares k refl
-    go false true (Ok tt) e = let k : ◌≡◌ {A = ℕ} 0 1 = cc in absurd (omega arith)
+    go false true (Ok tt) e = cc
     go false true (Err b) e = let k : TableRefused b.rule b.index ≡ f = cc in subst Spares k refl
 
 or-true : (b : Bool) → b || true ≡ true

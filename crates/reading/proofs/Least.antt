@@ -89,9 +89,9 @@ module _ (p : Payload) (at i : ℕ) where
   least-took sh early w n h = took-least (subst (Least (least_of sh p early w at)) h (least-taken sh early w))
 
 never : {m : ℕ} {o : Result ℕ DecodeRefusal} (j : ℕ) → Least m o → o ≡ Err (NoRoom j) → ⊥
-never j (least h) e = let z : ◌≡◌ {A = ℕ} 0 1 = cc in omega arith
-never j bit-refused e = let z : ◌≡◌ {A = ℕ} 0 1 = cc in omega arith
-never j too_short e = let z : ◌≡◌ {A = ℕ} 0 1 = cc in omega arith
+never j (least h) e = cc
+never j bit-refused e = cc
+never j too_short e = cc
 
 -- no field says that there is no room for its reading
 pub no_room : (p : Payload) (f : FieldDescriptor) (i : ℕ) (early : Bool) (at j : ℕ) → field_read_of p f i early at ≡ Err (NoRoom j) → ⊥

@@ -40,7 +40,7 @@ Agree b b' lo hi = (at n : ℕ) → lo ≤ at → at + n ≤ hi → b at n ≡ b
 -- a field that is taken had room
 fits : (r : Room) (i : ℕ) (later : Result ℕ DecodeRefusal) (n : ℕ) → if_room_lem r i later ≡ Ok n → r ≡ room.Fits
 fits room.Fits i later n h = refl
-fits (room.Refused e) i later n h = let z : ◌≡◌ {A = ℕ} 0 1 = cc in absurd (omega arith)
+fits (room.Refused e) i later n h = cc
 
 module _ (m : ℕ) (b b' : ℕ → ℕ → ℕ) where
   abbrev p : Payload

@@ -54,8 +54,8 @@ pub came-on : (a : Result Answer DecodeRefusal) (s : Progress) → came_by a s �
 came-on (Ok (Met r)) s h = refl
 came-on (Ok (Skipped v)) s h = refl
 came-on (Ok Moved) s h = refl
-came-on (Ok Ended) s h = let y : ◌≡◌ {A = ℕ} 0 1 = cc in absurd (omega arith)
-came-on (Err f) s h = let y : ◌≡◌ {A = ℕ} 0 1 = cc in absurd (omega arith)
+came-on (Ok Ended) s h = cc
+came-on (Err f) s h = cc
 
 -- .. said of the turn, once code has what it came to ..
 pub goes-on : (n : Next) {m : Option Decoded} → m ≡ came_to_lem n → m ≡ None → goes_on_lem n.answer ≡ true
@@ -63,9 +63,9 @@ goes-on n h k = came-on n.answer n.walk.progress (sym h ∙ k)
 
 -- .. and nowhere else
 pub came-last : (a : Result Answer DecodeRefusal) (s : Progress) (d : Decoded) → came_by a s ≡ Some d → goes_on_lem a ≡ false
-came-last (Ok (Met r)) s d h = let y : ◌≡◌ {A = ℕ} 0 1 = cc in absurd (omega arith)
-came-last (Ok (Skipped v)) s d h = let y : ◌≡◌ {A = ℕ} 0 1 = cc in absurd (omega arith)
-came-last (Ok Moved) s d h = let y : ◌≡◌ {A = ℕ} 0 1 = cc in absurd (omega arith)
+came-last (Ok (Met r)) s d h = cc
+came-last (Ok (Skipped v)) s d h = cc
+came-last (Ok Moved) s d h = cc
 came-last (Ok Ended) s d h = refl
 came-last (Err f) s d h = refl
 
@@ -101,7 +101,7 @@ module _ (t : Table) (p : Payload) (room : ℕ) where
   checked-hit : (b : Bool) (f : DecodeRefusal) (v w : Span) (z y : Progress) → check b f (hit w y) ≡ hit v z → (w ≡ v) × (y ≡ z)
   unfolding check
   checked-hit true f v w z y h = (cc, cc)
-  checked-hit false f v w z y h = let k : ◌≡◌ {A = ℕ} 0 1 = cc in absurd (omega arith)
+  checked-hit false f v w z y h = cc
 
   hit-hit : (v w : Span) (z y : Progress) → ◌≡◌ {A = One Span Progress DecodeRefusal} (hit w y) (hit v z) → (w ≡ v) × (y ≡ z)
   hit-hit v w z y h = (cc, cc)
@@ -192,9 +192,9 @@ module _ (t : Table) (p : Payload) (room : ℕ) where
   turned_on : (w : Walk) (g : Going w) (n : Next) → goes_on_lem n.answer ≡ true → Onward w g n → Turned w g n
   turned_on w g n o h = record {
     on = λ _. h;
-    last = λ e. let z : ◌≡◌ {A = Bool} true false = sym o ∙ e in let y : ◌≡◌ {A = ℕ} 0 1 = cc in absurd (omega arith);
-    ends = λ e. let z : ◌≡◌ {A = Bool} true false = sym o ∙ ap goes_on_lem e in let y : ◌≡◌ {A = ℕ} 0 1 = cc in absurd (omega arith);
-    stops = λ f e. let z : ◌≡◌ {A = Bool} true false = sym o ∙ ap goes_on_lem e in let y : ◌≡◌ {A = ℕ} 0 1 = cc in absurd (omega arith);
+    last = λ e. let z : ◌≡◌ {A = Bool} true false = sym o ∙ e in cc;
+    ends = λ e. let z : ◌≡◌ {A = Bool} true false = sym o ∙ ap goes_on_lem e in cc;
+    stops = λ f e. let z : ◌≡◌ {A = Bool} true false = sym o ∙ ap goes_on_lem e in cc;
   }
 
   count-done : (w : Walk) (g : Going w) → length (readings t p (g.done ++ [])) ≡ w.progress.made
@@ -241,18 +241,18 @@ module _ (t : Table) (p : Payload) (room : ℕ) where
       let same = ended-law t one count too_many Makes makes w.progress m in
       let run = stands-ended t one count too_many beginning g.done w.spot w.progress z g.stands e in
       record {
-        on = λ o. let y : ◌≡◌ {A = ℕ} 0 1 = cc in absurd (omega arith);
+        on = λ o. cc;
         last = λ _. ap (λ (r : Run Span Progress DecodeRefusal). readings t p (spans_of r)) run ∙ done_all w g;
         ends = λ _. ap (end_of t p) run ∙ ap (ended_at z.at) (count-done w g ∙ ap (λ (s : Progress). s.made) same);
-        stops = λ x o. let y : ◌≡◌ {A = ℕ} 0 1 = cc in absurd (omega arith);
+        stops = λ x o. cc;
       }
   turned_by w g (broke b z) e f m =
       let same = broke-law t one count too_many Makes makes w.progress m in
       let run = stands-broke t one count too_many beginning g.done w.spot w.progress z b g.stands e in
       record {
-        on = λ o. let y : ◌≡◌ {A = ℕ} 0 1 = cc in absurd (omega arith);
+        on = λ o. cc;
         last = λ _. ap (λ (r : Run Span Progress DecodeRefusal). readings t p (spans_of r)) run ∙ done_all w g;
-        ends = λ o. let y : ◌≡◌ {A = ℕ} 0 1 = cc in absurd (omega arith);
+        ends = λ o. cc;
         stops = λ x o. let is : b ≡ x = cc in ap (end_of t p) run ∙ ap₂ refused_with is (count-done w g ∙ ap (λ (s : Progress). s.made) same);
       }
 
@@ -272,9 +272,9 @@ module _ (t : Table) (p : Payload) (room : ℕ) where
     comes-to w g n u d h = go n.answer refl h
       where
         go : (a : Result Answer DecodeRefusal) → n.answer ≡ a → came_by a n.walk.progress ≡ Some d → whole ≡ d
-        go (Ok (Met r)) e k = let y : ◌≡◌ {A = ℕ} 0 1 = cc in absurd (omega arith)
-        go (Ok (Skipped v)) e k = let y : ◌≡◌ {A = ℕ} 0 1 = cc in absurd (omega arith)
-        go (Ok Moved) e k = let y : ◌≡◌ {A = ℕ} 0 1 = cc in absurd (omega arith)
+        go (Ok (Met r)) e k = cc
+        go (Ok (Skipped v)) e k = cc
+        go (Ok Moved) e k = cc
         go (Ok Ended) e k = let y : ended_at n.walk.progress.at n.walk.progress.made ≡ d = cc in u.ends e ∙ y
         go (Err f) e k = let y : refused_with f n.walk.progress.made ≡ d = cc in u.stops f e ∙ y
 

@@ -120,7 +120,7 @@ module _ (t : Table) (p : Payload) (room : ℕ) where
 
   full-check : (s : Progress) (b : Bool) (j : ℕ) (v : Span) (z : Progress) (f : DecodeRefusal) → ltb s.made room ≡ b → check b (NoRoom j) (hit v z) ≡ miss f → Full s f
   unfolding check
-  full-check s true j v z f q h i e = let k : ◌≡◌ {A = ℕ} 0 1 = cc in absurd (omega arith)
+  full-check s true j v z f q h i e = cc
   full-check s false j v z f q h i e = ltb-false s.made room q
 
   full_by : (i : ℕ) (e : Element) (last : Bool) (s : Progress) (f : DecodeRefusal) (r : Result FieldRead DecodeRefusal)
@@ -132,7 +132,7 @@ module _ (t : Table) (p : Payload) (room : ℕ) where
       absurd (no_room p (t.field i) i last s.at.0 j (q ∙ ap Err y))
 
   full-over : (k : ℕ) (s : Progress) → Full s (too_many k (count_of t p k s) (t.set k).maximum)
-  full-over k s i e = let z : ◌≡◌ {A = ℕ} 0 1 = cc in absurd (omega arith)
+  full-over k s i e = cc
 
   lawful : Lawful Passed Full beginning (walk_of t p room)
   unfolding walk_from

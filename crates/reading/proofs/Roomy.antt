@@ -78,7 +78,7 @@ module _ (t : Table) (ok : check_of t ≡ Ok tt) (p : Payload) (room : ℕ) wher
       let c = one-most (shape_of (t.field v.field)) in
       omega arith
   few-ending (v ∷ []) r (inr e, h) = let c = one-most (shape_of (t.field v.field)) in omega arith
-  few-ending (v ∷ w ∷ vs) r (inr e, h) = let z : ◌≡◌ {A = ℕ} 0 1 = cc in absurd (omega arith)
+  few-ending (v ∷ w ∷ vs) r (inr e, h) = cc
 
   -- so, whatever the room, a walk hands out at most one reading more than the payload has bits
   few-by : (x : Run Span Progress DecodeRefusal) → walk_of t p room ≡ x → length (readings t p (spans_of x)) ≤ p.size * 8 + 1
@@ -118,7 +118,7 @@ pub never-prepared : (t : Table) (received padded i : ℕ) → prepared_of t rec
 never-prepared t received padded i h = go (ltb payload_max received) (eqb padded payload_max) (check_of t) h
   where
     go : (a b : Bool) (c : Checked) → pick a (Err (WrongLength (bytes received))) (pick b (by_check c) (Err (WrongLength (bytes padded)))) ≡ Err (NoRoom i) → ⊥
-    go true b c e = let z : ◌≡◌ {A = ℕ} 0 1 = cc in omega arith
-    go false false c e = let z : ◌≡◌ {A = ℕ} 0 1 = cc in omega arith
-    go false true (Ok tt) e = let z : ◌≡◌ {A = ℕ} 0 1 = cc in omega arith
-    go false true (Err b) e = let z : ◌≡◌ {A = ℕ} 0 1 = cc in omega arith
+    go true b c e = cc
+    go false false c e = cc
+    go false true (Ok tt) e = cc
+    go false true (Err b) e = cc

@@ -39,7 +39,7 @@ module _ (t : Table) (p : Payload) (room : ℕ) where
   checked : (b : Bool) (f : DecodeRefusal) (v w : Span) (z y : Progress) → check b f (hit w y) ≡ hit v z → b ≡ true
   unfolding check
   checked true f v w z y h = refl
-  checked false f v w z y h = let k : ◌≡◌ {A = ℕ} 0 1 = cc in absurd (omega arith)
+  checked false f v w z y h = cc
 
   hit_same : (v w : Span) (z y : Progress) → ◌≡◌ {A = One Span Progress DecodeRefusal} (hit w y) (hit v z) → w ≡ v
   hit_same v w z y h = cc
@@ -64,10 +64,10 @@ module _ (t : Table) (p : Payload) (room : ℕ) where
 
   by_turn : (w : Walk) (r : Reading) (x : Turn Span Progress DecodeRefusal) → Meets t one (count_of t p) too_many Seated seated w.progress x → (shown t p w.spot x).answer ≡ Ok (Met r)
       → w.progress.made < room
-  by_turn w r (moved q z) m h = let y : ◌≡◌ {A = ℕ} 0 1 = cc in absurd (omega arith)
+  by_turn w r (moved q z) m h = cc
   by_turn w r (met v q z) m h = met-law t one (count_of t p) too_many Seated seated w.progress m r cc
-  by_turn w r (ended z) m h = let y : ◌≡◌ {A = ℕ} 0 1 = cc in absurd (omega arith)
-  by_turn w r (broke f z) m h = let y : ◌≡◌ {A = ℕ} 0 1 = cc in absurd (omega arith)
+  by_turn w r (ended z) m h = cc
+  by_turn w r (broke f z) m h = cc
 
   pub met-room : (w : Walk) (r : Reading) → (next_of t p room w).answer ≡ Ok (Met r) → w.progress.made < room
   met-room w r h = by_turn w r (turn_of t p room w.spot w.progress) (meets t one (count_of t p) too_many Seated seated w.spot w.progress) h
@@ -80,7 +80,7 @@ module _ (t : Table) (p : Payload) (room : ℕ) where
   checked-state : (b : Bool) (f : DecodeRefusal) (v w : Span) (z y : Progress) → check b f (hit w y) ≡ hit v z → y ≡ z
   unfolding check
   checked-state true f v w z y h = hit-state v w z y h
-  checked-state false f v w z y h = let k : ◌≡◌ {A = ℕ} 0 1 = cc in absurd (omega arith)
+  checked-state false f v w z y h = cc
 
   within_by : (i : ℕ) (e : Element) (s : Progress) (v : Span) (z : Progress) (q : Result FieldRead DecodeRefusal) → settled t room i e s q ≡ hit v z → s.made ≤ room → z.made ≤ room
   within_by i e s v z (Ok (read.Got n raw x)) h l =

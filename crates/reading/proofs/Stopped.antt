@@ -52,7 +52,7 @@ module _ (t : Table) (p : Payload) (room : ℕ) (P : DecodeRefusal → Type 0)
     (full : (i : ℕ) → P (NoRoom i)) (over : (k n m : ℕ) → P (too_many k n m)) where
   no_room : (b : Bool) (i : ℕ) (v : Span) (z : Progress) (f : DecodeRefusal) → check b (NoRoom i) (hit v z) ≡ miss f → P f
   unfolding check
-  no_room true i v z f h = let k : ◌≡◌ {A = ℕ} 0 1 = cc in absurd (omega arith)
+  no_room true i v z f h = cc
   no_room false i v z f h = let k : NoRoom i ≡ f = cc in subst P k (full i)
 
   -- a field that starts in the payload ends there ..
