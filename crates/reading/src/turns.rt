@@ -40,52 +40,44 @@ fn reading_of(words: &[u64], s: &[u8], v: Span, raw: Option<u64>, value: PgnValu
     requires { ReadOf raw value words.now s.now v }
     ensures { result ≡ reading_of (table_of words.now) (payload_of s.now) v }
 {
-    let field = v.field;
-    let element = v.element;
-    let start = v.start;
-    let bits = v.bits;
-    let f = tables::field_at(words, field);
-    let availability = field_availability(s, f, raw, value);
+    let f = tables::field_at(words, v.field);
     Reading {
-        field,
-        element,
-        start,
-        bits,
+        field: v.field,
+        element: v.element,
+        start: v.start,
+        bits: v.bits,
         raw,
         value,
-        availability,
+        availability: field_availability(s, f, raw, value),
     }
 }
 
-// Field i, in element e; the walk then goes on at `to`. `here` is the spot that it stands at.
+// Field i, in element e; the walk then goes on at `to`.
 fn see(
     words: &[u64],
     s: &[u8],
     room: usize,
+    walk: Walk,
     i: usize,
     e: Option<usize>,
     last: bool,
-    p: Progress,
     to: Spot,
-    here: Spot,
 ) -> Next
-    ensures { result ≡ shown_at (table_of words.now) (payload_of s.now) room here p (look.Meet i e last to) }
+    ensures { result ≡ shown_at (table_of words.now) (payload_of s.now) room walk.spot walk.progress (look.Meet i e last to) }
 {
-    let at = p.at;
-    let made = p.made;
-    let cs = p.counters;
+    let Progress { at, made, counters } = walk.progress;
     let f = tables::field_at(words, i);
     match read_field_raw_and_value(s, Cursor { at }, f, i, last) {
         Ok(FieldRead::Got { bits, raw, value }) => {
             if made < room {
-                let v = Span {
+                let span = Span {
                     field: i,
                     element: e,
                     start: at,
                     bits,
                 };
-                let reading = reading_of(words, s, v, raw, value);
-                let counters = groups::noted_by(words, e, i, raw, cs);
+                let reading = reading_of(words, s, span, raw, value);
+                let counters = groups::noted_by(words, e, i, raw, counters);
                 let to_at = at.0 + bits.0;
                 let progress = Progress {
                     at: BitPos(to_at),
@@ -94,10 +86,13 @@ fn see(
                 };
                 return next(Ok(Answer::Met(reading)), to, progress);
             }
-            next(Err(DecodeRefusal::NoRoom { field: i }), here, p)
+            Next {
+                answer: Err(DecodeRefusal::NoRoom { field: i }),
+                walk,
+            }
         }
         Ok(FieldRead::Skipped { bits }) => {
-            let v = Span {
+            let span = Span {
                 field: i,
                 element: e,
                 start: at,
@@ -106,35 +101,39 @@ fn see(
             let to_at = at.0 + bits.0;
             let progress = Progress {
                 at: BitPos(to_at),
-                made,
-                counters: cs,
+                ..walk.progress
             };
-            next(Ok(Answer::Skipped(v)), to, progress)
+            next(Ok(Answer::Skipped(span)), to, progress)
         }
-        Err(e) => next(Err(e), here, p),
+        Err(refusal) => Next {
+            answer: Err(refusal),
+            walk,
+        },
     }
 }
 
 // Into set k, if it has not too many elements.
-fn enter(words: &[u64], s: &[u8], k: usize, p: Progress, here: Spot) -> Next
-    ensures { result ≡ shown_at (table_of words.now) (payload_of s.now) 0 here p (look.Enter k) }
+fn enter(words: &[u64], s: &[u8], k: usize, walk: Walk) -> Next
+    ensures { result ≡ shown_at (table_of words.now) (payload_of s.now) 0 walk.spot walk.progress (look.Enter k) }
 {
-    let at = p.at;
-    let cs = p.counters;
+    let Progress { at, counters, .. } = walk.progress;
     let c = Cursor { at };
     let left = c.bits_remaining(s);
-    let raw = groups::counter_at(cs, k);
+    let raw = groups::counter_at(counters, k);
     match groups::repeating_group_count(words, k, raw, left) {
-        Ok(n) => {
+        Ok(count) => {
             let to = Spot::Within {
                 set: k,
-                count: n,
+                count,
                 element: 0,
                 offset: 0,
             };
-            next(Ok(Answer::Moved), to, p)
+            next(Ok(Answer::Moved), to, walk.progress)
         }
-        Err(e) => next(Err(e), here, p),
+        Err(refusal) => Next {
+            answer: Err(refusal),
+            walk,
+        },
     }
 }
 
@@ -142,18 +141,19 @@ fn enter(words: &[u64], s: &[u8], k: usize, p: Progress, here: Spot) -> Next
 pub fn next_field(words: &[u64], s: &[u8], room: usize, walk: Walk) -> Next
     ensures { result ≡ next_of (table_of words.now) (payload_of s.now) room walk }
 {
-    let here = walk.spot;
-    let p = walk.progress;
-    match walking::look_at(words, here) {
-        Look::End => next(Ok(Answer::Ended), here, p),
-        Look::Pass(to) => next(Ok(Answer::Moved), to, p),
-        Look::Enter(k) => enter(words, s, k, p, here),
+    match walking::look_at(words, walk.spot) {
+        Look::End => Next {
+            answer: Ok(Answer::Ended),
+            walk,
+        },
+        Look::Pass(to) => next(Ok(Answer::Moved), to, walk.progress),
+        Look::Enter(k) => enter(words, s, k, walk),
         Look::Meet {
             field,
             element,
             last,
             to,
-        } => see(words, s, room, field, element, last, p, to, here),
+        } => see(words, s, room, walk, field, element, last, to),
     }
 }
 

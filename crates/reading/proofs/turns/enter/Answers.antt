@@ -21,7 +21,7 @@ entered : (t : Table) (p : Payload) (here : Spot) (s : Progress) (k : ℕ) {raw 
 entered t p here s k e f h q = ap (enter_says t p here s k) (sym q ∙ h ∙ ap₂ (group_count_of t k) e f) ∙ enter-says t p here s k
 
 pub returns-in-Ok : goal.returns-in-Ok
-returns-in-Ok c = c.next.ensures ∙ entered (table_of c.args.words.now) (payload_of c.args.s.now) c.args.here c.args.p c.args.k c.counter_at-raw.ensures (ap (λ (l : BitPos). l.0) c.bits_remaining-left.ensures) c.repeating_group_count.ensures c.in-Ok.is
+returns-in-Ok c = c.next.ensures ∙ entered (table_of c.args.words.now) (payload_of c.args.s.now) c.args.walk.spot c.args.walk.progress c.args.k c.counter_at-raw.ensures (ap (λ (l : BitPos). l.0) c.bits_remaining-left.ensures) c.repeating_group_count.ensures c.in-Ok.is
 
 pub returns-in-Err : goal.returns-in-Err
-returns-in-Err c = c.next-in-Err.ensures ∙ entered (table_of c.args.words.now) (payload_of c.args.s.now) c.args.here c.args.p c.args.k c.counter_at-raw.ensures (ap (λ (l : BitPos). l.0) c.bits_remaining-left.ensures) c.repeating_group_count.ensures c.in-Err.is
+returns-in-Err c = entered (table_of c.args.words.now) (payload_of c.args.s.now) c.args.walk.spot c.args.walk.progress c.args.k c.counter_at-raw.ensures (ap (λ (l : BitPos). l.0) c.bits_remaining-left.ensures) c.repeating_group_count.ensures c.in-Err.is

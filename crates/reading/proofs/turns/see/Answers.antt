@@ -27,15 +27,15 @@ pub reading_of-reading-requires : goal.reading_of-reading-requires
 reading_of-reading-requires c =
     let p = payload_of c.args.s.now in
     let f = (table_of c.args.words.now).field c.args.i in
-    let h = told f p c.args.p.at.0 c.in-Ok-Got.bits c.args.i c.args.last c.in-Ok-Got.raw c.in-Ok-Got.value (was _ _ _ _ c.field_at-f.ensures c.read_field_raw_and_value.ensures (c.in-Ok-Got.is ∙ ap Ok c.in-Ok-Got.field-0-is)) in
+    let h = told f p c.args.walk.progress.at.0 c.in-Ok-Got.bits c.args.i c.args.last c.in-Ok-Got.raw c.in-Ok-Got.value (was _ _ _ _ c.field_at-f.ensures c.read_field_raw_and_value.ensures (c.in-Ok-Got.is ∙ ap Ok c.in-Ok-Got.field-0-is)) in
     (h.raw, h.value)
 
 pub overflow_add-to_at : goal.overflow_add-to_at
 overflow_add-to_at c =
     let p = payload_of c.args.s.now in
     let f = (table_of c.args.words.now).field c.args.i in
-    let h = told f p c.args.p.at.0 c.in-Ok-Got.bits c.args.i c.args.last c.in-Ok-Got.raw c.in-Ok-Got.value (was _ _ _ _ c.field_at-f.ensures c.read_field_raw_and_value.ensures (c.in-Ok-Got.is ∙ ap Ok c.in-Ok-Got.field-0-is)) in
-    let l = lies_in f p c.args.p.at.0 c.in-Ok-Got.bits c.args.i c.args.last h.took in
+    let h = told f p c.args.walk.progress.at.0 c.in-Ok-Got.bits c.args.i c.args.last c.in-Ok-Got.raw c.in-Ok-Got.value (was _ _ _ _ c.field_at-f.ensures c.read_field_raw_and_value.ensures (c.in-Ok-Got.is ∙ ap Ok c.in-Ok-Got.field-0-is)) in
+    let l = lies_in f p c.args.walk.progress.at.0 c.in-Ok-Got.bits c.args.i c.args.last h.took in
     record { fits = omega (arith, l.0, l.1) }
 
 pub returns-then-made-room : goal.returns-then-made-room
@@ -43,26 +43,24 @@ returns-then-made-room c =
     let t = table_of c.args.words.now in
     let p = payload_of c.args.s.now in
     c.next.ensures
-    ∙ ap₂ (λ (r : Reading) (cs : List ℕ). next_to (Ok (Met r)) c.args.to (progress_at (c.args.p.at.0 + c.in-Ok-Got.bits.0) (c.args.p.made + 1) cs)) c.reading_of-reading.ensures c.noted_by-counters.ensures
-    ∙ see-met t p c.args.room c.args.here c.args.to c.args.i c.args.e c.args.last c.args.p c.in-Ok-Got.bits c.in-Ok-Got.raw c.in-Ok-Got.value (was _ _ _ _ c.field_at-f.ensures c.read_field_raw_and_value.ensures (c.in-Ok-Got.is ∙ ap Ok c.in-Ok-Got.field-0-is)) c.if-made-room.true
+    ∙ ap₂ (λ (r : Reading) (cs : List ℕ). next_to (Ok (Met r)) c.args.to (progress_at (c.args.walk.progress.at.0 + c.in-Ok-Got.bits.0) (c.args.walk.progress.made + 1) cs)) c.reading_of-reading.ensures c.noted_by-counters.ensures
+    ∙ see-met t p c.args.room c.args.walk.spot c.args.to c.args.i c.args.e c.args.last c.args.walk.progress c.in-Ok-Got.bits c.in-Ok-Got.raw c.in-Ok-Got.value (was _ _ _ _ c.field_at-f.ensures c.read_field_raw_and_value.ensures (c.in-Ok-Got.is ∙ ap Ok c.in-Ok-Got.field-0-is)) c.if-made-room.true
 
 pub returns-else-made-room : goal.returns-else-made-room
 returns-else-made-room c =
     let t = table_of c.args.words.now in
     let p = payload_of c.args.s.now in
-    c.next-in-Ok-Got.ensures
-    ∙ see-full t p c.args.room c.args.here c.args.to c.args.i c.args.e c.args.last c.args.p c.in-Ok-Got.bits c.in-Ok-Got.raw c.in-Ok-Got.value (was _ _ _ _ c.field_at-f.ensures c.read_field_raw_and_value.ensures (c.in-Ok-Got.is ∙ ap Ok c.in-Ok-Got.field-0-is)) c.if-made-room.false
+    see-full t p c.args.room c.args.walk.spot c.args.to c.args.i c.args.e c.args.last c.args.walk.progress c.in-Ok-Got.bits c.in-Ok-Got.raw c.in-Ok-Got.value (was _ _ _ _ c.field_at-f.ensures c.read_field_raw_and_value.ensures (c.in-Ok-Got.is ∙ ap Ok c.in-Ok-Got.field-0-is)) c.if-made-room.false
 
 pub returns-in-Ok-Skipped : goal.returns-in-Ok-Skipped
 returns-in-Ok-Skipped c =
     let t = table_of c.args.words.now in
     let p = payload_of c.args.s.now in
     c.next-in-Ok-Skipped.ensures
-    ∙ see-gone t p c.args.room c.args.here c.args.to c.args.i c.args.e c.args.last c.args.p c.in-Ok-Skipped.bits (was _ _ _ _ c.field_at-f.ensures c.read_field_raw_and_value.ensures (c.in-Ok-Skipped.is ∙ ap Ok c.in-Ok-Skipped.field-0-is))
+    ∙ see-gone t p c.args.room c.args.walk.spot c.args.to c.args.i c.args.e c.args.last c.args.walk.progress c.in-Ok-Skipped.bits (was _ _ _ _ c.field_at-f.ensures c.read_field_raw_and_value.ensures (c.in-Ok-Skipped.is ∙ ap Ok c.in-Ok-Skipped.field-0-is))
 
 pub returns-in-Err : goal.returns-in-Err
 returns-in-Err c =
     let t = table_of c.args.words.now in
     let p = payload_of c.args.s.now in
-    c.next-in-Err.ensures
-    ∙ see-refused t p c.args.room c.args.here c.args.to c.args.i c.args.e c.args.last c.args.p _ (was _ _ _ _ c.field_at-f.ensures c.read_field_raw_and_value.ensures c.in-Err.is)
+    see-refused t p c.args.room c.args.walk.spot c.args.to c.args.i c.args.e c.args.last c.args.walk.progress _ (was _ _ _ _ c.field_at-f.ensures c.read_field_raw_and_value.ensures c.in-Err.is)
