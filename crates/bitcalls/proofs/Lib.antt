@@ -1,5 +1,3 @@
--- an answer of the narrower reads as one of the widest, and what a refusal carries
-mod Answering
 -- the answers that go by a VALUE or a COUNT
 mod Values
 -- a call by its name, by its arm of a match, and by its COUNT

@@ -13,14 +13,9 @@ use Rattle.bits.specs.Calls.{cursor_at, place, read_of, advance_of, written_of, 
 use Rattle.bits.specs.declared.BitRefusal.{BitRefusal}
 use Rattle.bits.specs.declared.BitRefusal.TheVariants.{BufferTooLong, TooLongForType, NonAlignedBit, OutOfBits, OutOfBytes}
 use Rattle.bits.specs.declared.Cursor.{Cursor}
-use Rattle.bits.specs.declared.Room.{Room}
-use Rattle.bits.specs.declared.Room.TheVariants as room
-use Rattle.bits.specs.declared.ReadU64.{ReadU64}
-use Rattle.bits.specs.declared.ReadU64.TheVariants as read
-use Rattle.bits.specs.declared.ReadSlice.{ReadSlice as SliceRead}
-use Rattle.bits.specs.declared.ReadSlice.TheVariants as slice
-use Rattle.bits.specs.declared.Moved.{Moved}
-use Rattle.bits.specs.declared.Moved.TheVariants as moved
+use Rattle.bits.specs.declared.Part.{Part}
+use Rattle.bits.specs.declared.Read.{Read as BitRead}
+use Rattle.std.specs.Prelude.{⊤, Result, Ok, Err}
 use Rattle.bits.proofs.Rooms.{whole}
 use Rattle.bits.proofs.Laws.{length-written_of}
 use Rattle.bits.proofs.Slices.{length-pasted}
@@ -71,33 +66,33 @@ refusal-size e = refused-size (number_of e) (carried_of e) (few e)
 
 -- ## The answers
 
-read-size : (r : ReadU64) → length (read_text r) ≤ 64
-read-size (read.Got v next) = omega (arith, length-append (ok_text (place next)) (spaced_hex v), ok-size (place next), (hex-size v).1)
-read-size (read.Refused e) = refusal-size e
+read-size : (r : Result (BitRead ℕ) BitRefusal) → length (read_text r) ≤ 64
+read-size (Ok a) = omega (arith, length-append (ok_text (place a.next)) (spaced_hex a.value), ok-size (place a.next), (hex-size a.value).1)
+read-size (Err e) = refusal-size e
 
-moved-size : (m : Moved) → length (moved_text m) ≤ 64
-moved-size (moved.To next) = omega (arith, ok-size (place next))
-moved-size (moved.Refused e) = refusal-size e
+moved-size : (m : Result Cursor BitRefusal) → length (moved_text m) ≤ 64
+moved-size (Ok next) = omega (arith, ok-size (place next))
+moved-size (Err e) = refusal-size e
 
-written-size : (m : Moved) (s : List ℕ) → length (written_text m s) ≤ 70 + 2 * length s
+written-size : (m : Result Cursor BitRefusal) (s : List ℕ) → length (written_text m s) ≤ 70 + 2 * length s
 written-size m s = omega (arith, length-append (moved_text m) (32 ∷ 124 ∷ part_text s), moved-size m, bytes-size s)
 
 cut : (n a : ℕ) (s : List ℕ) → length (take n (drop a s)) ≤ length s
 cut n a s = omega (arith, length-take n (drop a s), length-drop a s)
 
-slice-size : (s : List ℕ) (r : SliceRead) → length (slice_text s r) ≤ 70 + 2 * length s
-slice-size s (slice.Got part next) =
+slice-size : (s : List ℕ) (r : Result (BitRead Part) BitRefusal) → length (slice_text s r) ≤ 70 + 2 * length s
+slice-size s (Ok a) =
     omega
-    (arith, length-append (ok_text (place next)) (part_text (part_of s part)), ok-size (place next), bytes-size (part_of s part), cut part.len.0 part.start.0 s)
-slice-size s (slice.Refused e) = omega (arith, refusal-size e)
+    (arith, length-append (ok_text (place a.next)) (part_text (part_of s a.value)), ok-size (place a.next), bytes-size (part_of s a.value), cut a.value.len.0 a.value.start.0 s)
+slice-size s (Err e) = omega (arith, refusal-size e)
 
 -- a buffer keeps its length
 sliced-length : (s : List ℕ) (c : Cursor) (src : List ℕ) → length (sliced_of s c src) ≡ length s
 sliced-length s c src = go (slice_room_of (length s) (place c) (length src)) refl
   where
-    go : (r : Room) → slice_room_of (length s) (place c) (length src) ≡ r → length (sliced_in r s c src) ≡ length s
-    go room.Fits q = length-pasted s src (place c / 8) (whole _ _ _ q).inside
-    go (room.Refused e) q = refl
+    go : (r : Result ⊤ BitRefusal) → slice_room_of (length s) (place c) (length src) ≡ r → length (sliced_in r s c src) ≡ length s
+    go (Ok u) q = length-pasted s src (place c / 8) (whole _ _ _ q).inside
+    go (Err e) q = refl
 
 module _ (c : Cursor) (s : List ℕ) (n : ℕ) where
   abbrev most : ℕ

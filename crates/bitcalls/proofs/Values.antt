@@ -15,7 +15,8 @@ use Rattle.columns.proofs.Stored.{Stored}
 use Rattle.bits.specs.Calls.{place, advance_of, written_of, write_slice_of, sliced_of, remaining_of}
 use Rattle.bits.specs.declared.BitPos.{BitPos}
 use Rattle.bits.specs.declared.Cursor.{Cursor}
-use Rattle.bits.specs.declared.Moved.{Moved}
+use Rattle.std.specs.Prelude.{Result}
+use Rattle.bits.specs.declared.BitRefusal.{BitRefusal}
 use Rattle.bitcalls.specs.Names.{widest, largest}
 use Rattle.bitcalls.specs.Text.{ok_text, written_text, remaining_text, write_text, bytes_max, write_slice_text}
 use Rattle.bitcalls.specs.declared.names.Width.{Width}
@@ -35,7 +36,7 @@ module _ (c : Cursor) (s : List ℕ) (n : ℕ) where
     pub write-wide : largest w < v.value → malformed_text ≡ write_text w c s n value
     write-wide l = rw (← e, lt-leb v.value (largest w) l, and-false)
 
-    pub write : v.good ≡ true → v.value ≤ largest w → {m : Moved} {s' : List ℕ} → m ≡ advance_of (length s) c n (widest w) → s' ≡ written_of s c n (widest w) v.value
+    pub write : v.good ≡ true → v.value ≤ largest w → {m : Result Cursor BitRefusal} {s' : List ℕ} → m ≡ advance_of (length s) c n (widest w) → s' ≡ written_of s c n (widest w) v.value
         → written_text m s' ≡ write_text w c s n value
     write g l f h = rw (← e, g, le-leb v.value (largest w) l, f, h)
 
@@ -51,7 +52,7 @@ module _ (c : Cursor) (s : List ℕ) (n : ℕ) where
         let unlike : length (bytes_of value) ≡ n → ⊥ = λ z. o (count ∙ z) in
         rw (is, ne_eqb (length (bytes_of value)) n unlike)
 
-    pub slice : r.good ≡ true → r.len ≡ n → {m : Moved} {s' : List ℕ} → m ≡ write_slice_of (length s) c (length (take (r.len - 0) new)) → s' ≡ sliced_of s c (take (r.len - 0) new)
+    pub slice : r.good ≡ true → r.len ≡ n → {m : Result Cursor BitRefusal} {s' : List ℕ} → m ≡ write_slice_of (length s) c (length (take (r.len - 0) new)) → s' ≡ sliced_of s c (take (r.len - 0) new)
         → written_text m s' ≡ write_slice_text c s n value
     slice g o f k =
         let is : is_bytes bytes_max value ≡ true = sym h.good ∙ g in

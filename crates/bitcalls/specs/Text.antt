@@ -1,16 +1,12 @@
 -- The text of a bit call's answer: src/main.rt, "'ok CURSOR' and what was read, or 'F NUMBER' and what the refusal carries".
-use Rattle.std.specs.Prelude.{ℕ, List, ◌∷◌, ◌++◌, ◌&&◌, eqb, leb, length}
+use Rattle.std.specs.Prelude.{ℕ, List, ◌∷◌, ◌++◌, ◌&&◌, eqb, leb, length, Result, Ok, Err}
 use Rattle.bits.specs.Bits.{pick}
 use Rattle.bits.specs.Refusals.{number_of, carried_of}
 use Rattle.bits.specs.Calls.{place, advance_of, written_of, part_of, write_slice_of, sliced_of, remaining_of}
 use Rattle.bits.specs.declared.BitRefusal.{BitRefusal}
 use Rattle.bits.specs.declared.Cursor.{Cursor}
-use Rattle.bits.specs.declared.ReadU64.{ReadU64}
-use Rattle.bits.specs.declared.ReadU64.TheVariants as read
-use Rattle.bits.specs.declared.ReadSlice.{ReadSlice}
-use Rattle.bits.specs.declared.ReadSlice.TheVariants as slice
-use Rattle.bits.specs.declared.Moved.{Moved}
-use Rattle.bits.specs.declared.Moved.TheVariants as moved
+use Rattle.bits.specs.declared.Part.{Part}
+use Rattle.bits.specs.declared.Read.{Read}
 use Rattle.text.specs.Digits.{spaced, spaced_hex, bytes_text}
 use Rattle.text.specs.Refusals.{refused_text, malformed_text}
 use Rattle.columns.specs.Numbers.{hex_in}
@@ -29,20 +25,20 @@ refusal_text e = refused_text (number_of e) (carried_of e)
 abbrev pub part_text : List ℕ → List ℕ
 part_text s = 32 ∷ bytes_text s
 
-abbrev pub read_text : ReadU64 → List ℕ
-read_text (read.Got v next) = ok_text (place next) ++ spaced_hex v
-read_text (read.Refused e) = refusal_text e
+abbrev pub read_text : Result (Read ℕ) BitRefusal → List ℕ
+read_text (Ok a) = ok_text (place a.next) ++ spaced_hex a.value
+read_text (Err e) = refusal_text e
 
-abbrev pub slice_text : List ℕ → ReadSlice → List ℕ
-slice_text s (slice.Got part next) = ok_text (place next) ++ part_text (part_of s part)
-slice_text s (slice.Refused e) = refusal_text e
+abbrev pub slice_text : List ℕ → Result (Read Part) BitRefusal → List ℕ
+slice_text s (Ok a) = ok_text (place a.next) ++ part_text (part_of s a.value)
+slice_text s (Err e) = refusal_text e
 
-abbrev pub moved_text : Moved → List ℕ
-moved_text (moved.To next) = ok_text (place next)
-moved_text (moved.Refused e) = refusal_text e
+abbrev pub moved_text : Result Cursor BitRefusal → List ℕ
+moved_text (Ok next) = ok_text (place next)
+moved_text (Err e) = refusal_text e
 
 -- "after a write call ' | BUFFER' follows"
-abbrev pub written_text : Moved → List ℕ → List ℕ
+abbrev pub written_text : Result Cursor BitRefusal → List ℕ → List ℕ
 written_text m s = moved_text m ++ 32 ∷ 124 ∷ part_text s
 
 -- COUNT is 0 in bits_remaining

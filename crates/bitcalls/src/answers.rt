@@ -2,7 +2,7 @@
 ghost use Rattle.text.specs.Sheet.{Puts};
 ghost use Rattle.bitcalls.specs.Text.{ok_text, part_text, refusal_text, moved_text, written_text};
 
-use bits::{BitRefusal, Moved};
+use bits::{BitRefusal, Cursor};
 use text::{put_bytes, put_number, put_refused, put_text};
 
 // A call was accepted: the cursor after it.
@@ -39,17 +39,22 @@ pub(crate) fn put_refusal(out: &mut [u8], at: usize, e: BitRefusal) -> usize
     )
 }
 
-pub(crate) fn put_moved(m: Moved, out: &mut [u8], at: usize) -> usize
+pub(crate) fn put_moved(m: Result<Cursor, BitRefusal>, out: &mut [u8], at: usize) -> usize
     ensures { Puts out.old at (moved_text m) out.new result }
 {
     match m {
-        Moved::To { next } => put_ok(out, at, next.at.0),
-        Moved::Refused(e) => put_refusal(out, at, e),
+        Ok(next) => put_ok(out, at, next.at.0),
+        Err(e) => put_refusal(out, at, e),
     }
 }
 
 // A call that writes: its answer, and the buffer after it, set off by a bar.
-pub(crate) fn put_written(m: Moved, s: &[u8], out: &mut [u8], at: usize) -> usize
+pub(crate) fn put_written(
+    m: Result<Cursor, BitRefusal>,
+    s: &[u8],
+    out: &mut [u8],
+    at: usize,
+) -> usize
     ensures { Puts out.old at (written_text m s.now) out.new result }
 {
     let a = put_moved(m, out, at);

@@ -7,72 +7,36 @@ ghost use Rattle.bitcalls.specs.Text.{read_text, moved_text, slice_text, remaini
 
 use crate::answers::{put_moved, put_ok, put_part, put_refusal};
 use crate::names::Width;
-use bits::{ByteCount, Cursor, ReadSlice, ReadU8, ReadU16, ReadU32, ReadU64};
+use bits::{BitRefusal, ByteCount, Cursor, Read};
 use text::{put_malformed, put_number, put_value};
 
-fn of32(x: u32) -> u64
-    ensures { result ≡ x }
-{
-    x as u64
-}
-
-fn of16(x: u16) -> u64
-    ensures { result ≡ x }
-{
-    x as u64
-}
-
-fn of8(x: u8) -> u64
-    ensures { result ≡ x }
-{
-    x as u64
-}
-
-fn read_u32(c: Cursor, s: &[u8], n: u32) -> ReadU64
-    ensures { result ≡ read_of s.now c n 32 }
-{
-    match c.read_u32(s, n) {
-        ReadU32::Got { value, next } => ReadU64::Got {
-            value: of32(value),
-            next,
-        },
-        ReadU32::Refused(e) => ReadU64::Refused(e),
-    }
-}
-
-fn read_u16(c: Cursor, s: &[u8], n: u32) -> ReadU64
-    ensures { result ≡ read_of s.now c n 16 }
-{
-    match c.read_u16(s, n) {
-        ReadU16::Got { value, next } => ReadU64::Got {
-            value: of16(value),
-            next,
-        },
-        ReadU16::Refused(e) => ReadU64::Refused(e),
-    }
-}
-
-fn read_u8(c: Cursor, s: &[u8], n: u32) -> ReadU64
-    ensures { result ≡ read_of s.now c n 8 }
-{
-    match c.read_u8(s, n) {
-        ReadU8::Got { value, next } => ReadU64::Got {
-            value: of8(value),
-            next,
-        },
-        ReadU8::Refused(e) => ReadU64::Refused(e),
-    }
-}
-
 // The answers of the four widths in one type.
-fn read_width(w: Width, c: Cursor, s: &[u8], n: u32) -> ReadU64
+fn read_width(w: Width, c: Cursor, s: &[u8], n: u32) -> Result<Read<u64>, BitRefusal>
     ensures { result ≡ read_of s.now c n (widest w) }
 {
     match w {
         Width::W64 => c.read_u64(s, n),
-        Width::W32 => read_u32(c, s, n),
-        Width::W16 => read_u16(c, s, n),
-        Width::W8 => read_u8(c, s, n),
+        Width::W32 => {
+            let Read { value, next } = c.read_u32(s, n)?;
+            Ok(Read {
+                value: u64::from(value),
+                next,
+            })
+        }
+        Width::W16 => {
+            let Read { value, next } = c.read_u16(s, n)?;
+            Ok(Read {
+                value: u64::from(value),
+                next,
+            })
+        }
+        Width::W8 => {
+            let Read { value, next } = c.read_u8(s, n)?;
+            Ok(Read {
+                value: u64::from(value),
+                next,
+            })
+        }
     }
 }
 
@@ -80,11 +44,11 @@ pub(crate) fn put_read(w: Width, c: Cursor, s: &[u8], n: u32, out: &mut [u8], at
     ensures { Puts out.old at (read_text (read_of s.now c n (widest w))) out.new result }
 {
     match read_width(w, c, s, n) {
-        ReadU64::Got { value, next } => {
-            let a = put_ok(out, at, next.at.0);
-            put_value(out, a, value)
+        Ok(read) => {
+            let a = put_ok(out, at, read.next.at.0);
+            put_value(out, a, read.value)
         }
-        ReadU64::Refused(e) => put_refusal(out, at, e),
+        Err(e) => put_refusal(out, at, e),
     }
 }
 
@@ -98,11 +62,11 @@ pub(crate) fn put_slice(c: Cursor, s: &[u8], n: usize, out: &mut [u8], at: usize
     ensures { Puts out.old at (slice_text s.now (read_slice_of (length s.now) c n)) out.new result }
 {
     match c.read_slice(s, ByteCount(n)) {
-        ReadSlice::Got { part, next } => {
-            let a = put_ok(out, at, next.at.0);
-            put_part(out, a, part.bytes(s))
+        Ok(read) => {
+            let a = put_ok(out, at, read.next.at.0);
+            put_part(out, a, read.value.bytes(s))
         }
-        ReadSlice::Refused(e) => put_refusal(out, at, e),
+        Err(e) => put_refusal(out, at, e),
     }
 }
 

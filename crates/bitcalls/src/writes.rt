@@ -7,7 +7,7 @@ ghost use Rattle.bitcalls.specs.Text.{written_text, write_text, write_slice_text
 
 use crate::answers::put_written;
 use crate::names::{Width, most};
-use bits::{Cursor, Moved};
+use bits::{BitRefusal, Cursor};
 use text::put_malformed;
 
 // The low bits of v: v itself where `most` allows it.
@@ -29,7 +29,7 @@ fn low8(v: u64) -> u8
     (v % 0x100) as u8
 }
 
-fn write_width(w: Width, c: Cursor, s: &mut [u8], v: u64, n: u32) -> Moved
+fn write_width(w: Width, c: Cursor, s: &mut [u8], v: u64, n: u32) -> Result<Cursor, BitRefusal>
     ensures value { result ≡ advance_of (length s.old) c n (widest w) }
     ensures s_after { v ≤ largest w → s.new ≡ written_of s.old c n (widest w) v }
 {

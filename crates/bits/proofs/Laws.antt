@@ -8,11 +8,10 @@ use mathlib.Core.List.{List}
 use Prim.Native.Nat.{ℕ, ◌+◌, ◌*◌, ◌%◌, ◌^◌, ◌≤◌, ◌<◌}
 use native.Mathlib.Omega.{arith}
 use lib.ListN.{length, get_or}
+use Rattle.std.specs.Prelude.{⊤, Result, Ok, Err}
 use Rattle.bits.specs.Bits.{bit_at, bits_at, written}
+use Rattle.bits.specs.declared.BitRefusal.{BitRefusal}
 use Rattle.bits.specs.declared.Cursor.{Cursor}
-use Rattle.bits.specs.declared.Room.{Room}
-use Rattle.bits.specs.declared.Room.TheVariants as room
-use Rattle.bits.specs.declared.ReadU64.TheVariants as read64
 use Rattle.bits.specs.Calls.{place, moved_by, room_of, read_in, read_of, written_in, written_of}
 use Rattle.bits.proofs.Sums.{sum-ext}
 use Rattle.bits.proofs.Rooms.{Fitting, fitting, room_fits}
@@ -25,9 +24,9 @@ use Rattle.bits.proofs.Words.{byte}
 pub run-local : (s t : List ℕ) (at n : ℕ) → ((k : ℕ) → k < n → bit_at s (at + k) ≡ bit_at t (at + k)) → bits_at s at n ≡ bits_at t at n
 run-local s t at n h = sum-ext _ _ n h
 
-local-in : (s t : List ℕ) (c : Cursor) (n : ℕ) (r : Room) → ((k : ℕ) → k < n → bit_at s (place c + k) ≡ bit_at t (place c + k)) → read_in r s c n ≡ read_in r t c n
-local-in s t c n room.Fits h = ap (λ (v : ℕ). read64.Got v (moved_by c n)) (run-local s t (place c) n h)
-local-in s t c n (room.Refused e) h = refl
+local-in : (s t : List ℕ) (c : Cursor) (n : ℕ) (r : Result ⊤ BitRefusal) → ((k : ℕ) → k < n → bit_at s (place c + k) ≡ bit_at t (place c + k)) → read_in r s c n ≡ read_in r t c n
+local-in s t c n (Ok u) h = ap (λ (v : ℕ). Ok (record { value = v; next = moved_by c n })) (run-local s t (place c) n h)
+local-in s t c n (Err e) h = refl
 
 -- a read depends on its own bits and the length alone, refusals too
 pub read-local : (s t : List ℕ) (c : Cursor) (n max : ℕ) → length s ≡ length t → ((k : ℕ) → k < n → bit_at s (place c + k) ≡ bit_at t (place c + k)) → read_of s c n max ≡ read_of t c n max
@@ -44,24 +43,24 @@ byte-read s i h = byte s i (i * 8) refl h
 pub length-written : (s : List ℕ) (at n v : ℕ) → length (written s at n v) ≡ length s
 length-written s at n v = length_from _ 0 (length s)
 
-length-in : (s : List ℕ) (c : Cursor) (n v : ℕ) (r : Room) → length (written_in r s c n v) ≡ length s
-length-in s c n v room.Fits = length-written s (place c) n v
-length-in s c n v (room.Refused e) = refl
+length-in : (s : List ℕ) (c : Cursor) (n v : ℕ) (r : Result ⊤ BitRefusal) → length (written_in r s c n v) ≡ length s
+length-in s c n v (Ok u) = length-written s (place c) n v
+length-in s c n v (Err e) = refl
 
 pub length-written_of : (s : List ℕ) (c : Cursor) (n max v : ℕ) → length (written_of s c n max v) ≡ length s
 length-written_of s c n max v = length-in s c n v (room_of (length s) (place c) n max)
 
 module _ (s : List ℕ) (c : Cursor) (n max v : ℕ) (f : Fitting (length s) (place c) n max) where
   accepted : written_of s c n max v ≡ written s (place c) n v
-  accepted = ap (λ (r : Room). written_in r s c n v) (room_fits _ _ _ _ f)
+  accepted = ap (λ (r : Result ⊤ BitRefusal). written_in r s c n v) (room_fits _ _ _ _ f)
 
   -- what is written is read back, mod 2 ^ n, and the cursor comes to the same place
-  pub read-write : read_of (written_of s c n max v) c n max ≡ read64.Got (v % 2 ^ n) (moved_by c n)
+  pub read-write : read_of (written_of s c n max v) c n max ≡ Ok (record { value = v % 2 ^ n; next = moved_by c n })
   read-write =
       let g : length (written s (place c) n v) ≡ length s = length-written s (place c) n v in
       ap (λ (l : List ℕ). read_of l c n max) accepted
-      ∙ ap (λ (r : Room). read_in r (written s (place c) n v) c n) (ap (λ (m : ℕ). room_of m (place c) n max) g ∙ room_fits _ _ _ _ f)
-      ∙ ap (λ (x : ℕ). read64.Got x (moved_by c n)) (read_back s (place c) n v f.inside)
+      ∙ ap (λ (r : Result ⊤ BitRefusal). read_in r (written s (place c) n v) c n) (ap (λ (m : ℕ). room_of m (place c) n max) g ∙ room_fits _ _ _ _ f)
+      ∙ ap (λ (x : ℕ). Ok (record { value = x; next = moved_by c n })) (read_back s (place c) n v f.inside)
 
   -- a run that shares no bit with the write
   pub run-apart : (p m : ℕ) → (p + m ≤ place c) ⊎ (place c + n ≤ p) → p + m ≤ length s * 8 → bits_at (written s (place c) n v) p m ≡ bits_at s p m
@@ -69,11 +68,11 @@ module _ (s : List ℕ) (c : Cursor) (n max v : ℕ) (f : Fitting (length s) (pl
       let q : place c ≤ length s * 8 = omega (arith, f.inside) in
       ⊎_elim (λ w. apart-before s (place c) n v p m w q) (λ w. apart-after s (place c) n v p m w h) d
 
-  apart_in : (d : Cursor) (m most : ℕ) → (place d + m ≤ place c) ⊎ (place c + n ≤ place d) → (r : Room) → room_of (length s) (place d) m most ≡ r
+  apart_in : (d : Cursor) (m most : ℕ) → (place d + m ≤ place c) ⊎ (place c + n ≤ place d) → (r : Result ⊤ BitRefusal) → room_of (length s) (place d) m most ≡ r
       → read_in r (written s (place c) n v) d m ≡ read_in r s d m
-  apart_in d m most a (room.Refused x) h = refl
-  apart_in d m most a room.Fits h =
-      ap (λ (x : ℕ). read64.Got x (moved_by d m)) (run-apart (place d) m a (fitting (length s) (place d) m most h).inside)
+  apart_in d m most a (Err x) h = refl
+  apart_in d m most a (Ok u) h =
+      ap (λ (x : ℕ). Ok (record { value = x; next = moved_by d m })) (run-apart (place d) m a (fitting (length s) (place d) m most h).inside)
 
   -- a read apart from a write answers as it did, refusals too
   pub read-apart : (d : Cursor) (m most : ℕ) → (place d + m ≤ place c) ⊎ (place c + n ≤ place d) → read_of (written_of s c n max v) d m most ≡ read_of s d m most

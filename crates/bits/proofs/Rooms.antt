@@ -10,12 +10,11 @@ use borrow.Author.Tests.{ltb-true, ltb-false, eqb-false, eqb-true, not-false, le
 use Rattle.bits.specs.declared.BitRefusal.{BitRefusal}
 use Rattle.bits.specs.declared.BitRefusal.TheVariants.{BufferTooLong, TooLongForType, NonAlignedBit, OutOfBits, OutOfBytes}
 use Rattle.bits.specs.declared.ByteCount.{ByteCount}
-use Rattle.bits.specs.declared.Room.{Room}
-use Rattle.bits.specs.declared.Room.TheVariants.{Fits, Refused}
+use Rattle.std.specs.Prelude.{⊤, Result, Ok, Err}
 use Rattle.bits.specs.Calls.{bits, bytes, buffer_max, width_max, refuse, room_of, out_of_bytes, slice_room_of}
 
-not-refused : (t : Bool) (e : BitRefusal) (b : Room) → refuse t e b ≡ Fits → (t ≡ false) × (b ≡ Fits)
-not-refused true e b h = let z : ◌≡◌ {A = ℕ} 0 1 = cc in absurd (omega arith)
+not-refused : (t : Bool) (e : BitRefusal) (b : Result ⊤ BitRefusal) → refuse t e b ≡ Ok tt → (t ≡ false) × (b ≡ Ok tt)
+not-refused true e b h = cc
 not-refused false e b h = (refl, h)
 
 -- a number call that is not refused
@@ -25,7 +24,7 @@ pub record Fitting (len at n max : ℕ) : Type 0 where
   pub narrow : n ≤ max
   pub inside : at + n ≤ len * 8
 
-pub fitting : (len at n max : ℕ) → room_of len at n max ≡ Fits → Fitting len at n max
+pub fitting : (len at n max : ℕ) → room_of len at n max ≡ Ok tt → Fitting len at n max
 fitting len at n max h =
     let a = not-refused _ _ _ h in
     let b = not-refused _ _ _ a.1 in
@@ -37,7 +36,7 @@ fitting len at n max h =
     let inside : at + n ≤ len * 8 = ltb-false (len * 8) (at + n) e.0 in
     record { short = short; some = omega arith; narrow = narrow; inside = inside }
 
-pub room_fits : (len at n max : ℕ) → Fitting len at n max → room_of len at n max ≡ Fits
+pub room_fits : (len at n max : ℕ) → Fitting len at n max → room_of len at n max ≡ Ok tt
 room_fits len at n max f =
     let nz : n ≡ 0 → ⊥ = λ e. omega arith in
     simp (le-ltb 65536 len f.short, ne_eqb n 0 nz, le-ltb max n f.narrow, le-ltb (len * 8) (at + n) f.inside)
@@ -48,7 +47,7 @@ pub record Whole (len at n : ℕ) : Type 0 where
   pub aligned : at % 8 ≡ 0
   pub inside : at / 8 + n ≤ len
 
-pub whole : (len at n : ℕ) → slice_room_of len at n ≡ Fits → Whole len at n
+pub whole : (len at n : ℕ) → slice_room_of len at n ≡ Ok tt → Whole len at n
 whole len at n h =
     let a = not-refused _ _ _ h in
     let b = not-refused _ _ _ a.1 in
@@ -59,7 +58,7 @@ whole len at n h =
       inside = ltb-false len (at / 8 + n) d.0;
     }
 
-pub slice_fits : (len at n : ℕ) → Whole len at n → slice_room_of len at n ≡ Fits
+pub slice_fits : (len at n : ℕ) → Whole len at n → slice_room_of len at n ≡ Ok tt
 slice_fits len at n f =
     simp (le-ltb 65536 len f.short, eq-eqb (at % 8) 0 f.aligned, le-ltb len (at / 8 + n) f.inside)
 
@@ -72,10 +71,10 @@ pub record Short (len at n : ℕ) (asked available : ByteCount) : Type 0 where
   -- asked is above available, but for the empty slice past the end
   pub above : (available.0 < asked.0) ⊎ ((n ≡ 0) × (len * 8 < at))
   -- what is left can be had, and no byte more
-  pub had : at ≤ len * 8 → (m : ℕ) → m ≤ available.0 → slice_room_of len at m ≡ Fits
-  pub no_more : (m : ℕ) → available.0 < m → slice_room_of len at m ≡ Fits → ⊥
+  pub had : at ≤ len * 8 → (m : ℕ) → m ≤ available.0 → slice_room_of len at m ≡ Ok tt
+  pub no_more : (m : ℕ) → available.0 < m → slice_room_of len at m ≡ Ok tt → ⊥
 
-pub short : (len at n : ℕ) (asked available : ByteCount) → slice_room_of len at n ≡ Refused (OutOfBytes asked available) → Short len at n asked available
+pub short : (len at n : ℕ) (asked available : ByteCount) → slice_room_of len at n ≡ Err (OutOfBytes asked available) → Short len at n asked available
 short len at n asked available h = go (ltb buffer_max len) (not (eqb (at % 8) 0)) (ltb len (at / 8 + n)) refl refl refl h
   where
     over : (wanted left : ℕ) (b : Bool) → eqb n 0 ≡ b → wanted ≡ n → left ≡ len - at / 8 → len < at / 8 + n → (left < wanted) ⊎ ((n ≡ 0) × (len * 8 < at))
@@ -83,11 +82,11 @@ short len at n asked available h = go (ltb buffer_max len) (not (eqb (at % 8) 0)
     over wanted left false z e d p = let some : n ≡ 0 → ⊥ = eqb-false n 0 z in inl (omega arith)
 
     go : (a b d : Bool) → ltb buffer_max len ≡ a → not (eqb (at % 8) 0) ≡ b → ltb len (at / 8 + n) ≡ d
-        → refuse a (BufferTooLong (bytes len)) (refuse b (NonAlignedBit (bits at)) (refuse d (out_of_bytes len at n) Fits)) ≡ Refused (OutOfBytes asked available)
+        → refuse a (BufferTooLong (bytes len)) (refuse b (NonAlignedBit (bits at)) (refuse d (out_of_bytes len at n) (Ok tt))) ≡ Err (OutOfBytes asked available)
         → Short len at n asked available
-    go true b d p q r e = let z : ◌≡◌ {A = ℕ} 0 1 = cc in absurd (omega arith)
-    go false true d p q r e = let z : ◌≡◌ {A = ℕ} 0 1 = cc in absurd (omega arith)
-    go false false false p q r e = let z : ◌≡◌ {A = ℕ} 0 1 = cc in absurd (omega arith)
+    go true b d p q r e = cc
+    go false true d p q r e = cc
+    go false false false p q r e = cc
     go false false true p q r e =
         let small : len ≤ 65536 = ltb-false 65536 len p in
         let aligned : at % 8 ≡ 0 = eqb-true (at % 8) 0 (not-false (eqb (at % 8) 0) q) in
@@ -104,15 +103,15 @@ short len at n asked available h = go (ltb buffer_max len) (not (eqb (at % 8) 0)
         }
 
 -- in refusal 2 asked is above available; of any other refusal it says nothing
-abbrev pub Above : Room → Type 0
-Above (Refused (OutOfBits asked available)) = available.0 < asked.0
-Above (Refused (OutOfBytes asked available)) = available.0 < asked.0
-Above (Refused (BufferTooLong len)) = Unit {0}
-Above (Refused (TooLongForType max asked)) = Unit {0}
-Above (Refused (NonAlignedBit at)) = Unit {0}
-Above Fits = Unit {0}
+abbrev pub Above : Result ⊤ BitRefusal → Type 0
+Above (Err (OutOfBits asked available)) = available.0 < asked.0
+Above (Err (OutOfBytes asked available)) = available.0 < asked.0
+Above (Err (BufferTooLong len)) = Unit {0}
+Above (Err (TooLongForType max asked)) = Unit {0}
+Above (Err (NonAlignedBit at)) = Unit {0}
+Above (Ok u) = Unit {0}
 
-refused-above : (b : Bool) (e : BitRefusal) (later : Room) → (b ≡ true → Above (Refused e)) → (b ≡ false → Above later) → Above (refuse b e later)
+refused-above : (b : Bool) (e : BitRefusal) (later : Result ⊤ BitRefusal) → (b ≡ true → Above (Err e)) → (b ≡ false → Above later) → Above (refuse b e later)
 refused-above true e later h k = h refl
 refused-above false e later h k = k refl
 
@@ -122,7 +121,7 @@ number-above len at n max =
     refused-above (ltb buffer_max len) _ _ (λ a. tt) (λ a.
     refused-above (eqb n 0) (TooLongForType width_max n) _ (λ b. tt) (λ b.
     refused-above (ltb max n) (TooLongForType max n) _ (λ d. tt) (λ d.
-    refused-above (ltb (len * 8) (at + n)) (OutOfBits (bits n) (bits (len * 8 - at))) Fits
+    refused-above (ltb (len * 8) (at + n)) (OutOfBits (bits n) (bits (len * 8 - at))) (Ok tt)
     (λ e.
     let some : n ≡ 0 → ⊥ = eqb-false n 0 b in
     let past : len * 8 < at + n = ltb-true (len * 8) (at + n) e in
@@ -134,7 +133,7 @@ pub slice-above : (len at n : ℕ) → at ≤ len * 8 → Above (slice_room_of l
 slice-above len at n i =
     refused-above (ltb buffer_max len) _ _ (λ a. tt) (λ a.
     refused-above (not (eqb (at % 8) 0)) (NonAlignedBit (bits at)) _ (λ b. tt) (λ b.
-    refused-above (ltb len (at / 8 + n)) (out_of_bytes len at n) Fits
+    refused-above (ltb len (at / 8 + n)) (out_of_bytes len at n) (Ok tt)
     (λ d.
     let past : len < at / 8 + n = ltb-true len (at / 8 + n) d in
     omega (arith, i))

@@ -7,16 +7,14 @@ use Prim.Native.Nat.{ℕ, ◌+◌, ◌-◌, ◌*◌, ◌/◌, ◌%◌, ◌^◌, 
 use native.Mathlib.Omega.{arith}
 use lib.ListN.{length, get_or, take, drop, get_or-append, length-drop}
 use lib.Seq.{ext_get_or, paste, length-paste, length_paste_head, get_or-take, get_or-drop, length-take-le, get_or-append-add}
+use Rattle.std.specs.Prelude.{⊤, Result, Ok, Err}
 use Rattle.bits.specs.Bits.{bit, bits_at}
 use Rattle.bits.specs.declared.BitRefusal.{BitRefusal}
 use Rattle.bits.specs.declared.BitRefusal.TheVariants.{OutOfBytes}
 use Rattle.bits.specs.declared.ByteCount.{ByteCount}
 use Rattle.bits.specs.declared.Cursor.{Cursor}
-use Rattle.bits.specs.declared.Moved.TheVariants as moved
 use Rattle.bits.specs.declared.Part.{Part}
-use Rattle.bits.specs.declared.Room.{Room}
-use Rattle.bits.specs.declared.Room.TheVariants as room
-use Rattle.bits.specs.declared.ReadSlice.TheVariants as slice
+use Rattle.bits.specs.declared.Read.{Read}
 use Rattle.bits.specs.Calls.{bytes, place, moved_by, slice_room_of, read_slice_in, read_slice_of, part_of, advance_in, write_slice_of, sliced_in, sliced_of}
 use Rattle.bits.proofs.Sums.{sum-ext}
 use Rattle.bits.proofs.Rooms.{Whole, whole, slice_fits, Short, short}
@@ -44,14 +42,14 @@ taken s c n w =
     }
 
 -- of any buffer: what `Part::bytes` hands out of a part that `read_slice` gave is all of it
-pub slice-uncut : (s : List ℕ) (c : Cursor) (n : ℕ) (part : Part) (next : Cursor) → read_slice_of (length s) c n ≡ slice.Got part next → Uncut s c n (part_of s part)
-slice-uncut s c n part next h = go (slice_room_of (length s) (place c) n) refl h
+pub slice-uncut : (s : List ℕ) (c : Cursor) (n : ℕ) (a : Read Part) → read_slice_of (length s) c n ≡ Ok a → Uncut s c n (part_of s a.value)
+slice-uncut s c n a h = go (slice_room_of (length s) (place c) n) refl h
   where
-    go : (r : Room) → slice_room_of (length s) (place c) n ≡ r → read_slice_in r c n ≡ slice.Got part next → Uncut s c n (part_of s part)
-    go room.Fits q e =
-        let p : record { start = bytes (place c / 8); len = bytes n } ≡ part = cc in
+    go : (r : Result ⊤ BitRefusal) → slice_room_of (length s) (place c) n ≡ r → read_slice_in r c n ≡ Ok a → Uncut s c n (part_of s a.value)
+    go (Ok u) q e =
+        let p : record { start = bytes (place c / 8); len = bytes n } ≡ a.value = cc in
         subst (λ (x : Part). Uncut s c n (part_of s x)) p (taken s c n (whole _ _ _ q))
-    go (room.Refused x) q e = let z : ◌≡◌ {A = ℕ} 0 1 = cc in absurd (omega arith)
+    go (Err x) q e = cc
 
 -- ## Writing
 
@@ -115,30 +113,30 @@ module _ (s src : List ℕ) (a : ℕ) (inside : a + length src ≤ length s) whe
 -- what `write_slice` accepts and writes, `read_slice` finds, and the part is the source
 module _ (s src : List ℕ) (c : Cursor) (f : Whole (length s) (place c) (length src)) where
   accepted : sliced_of s c src ≡ paste s (place c / 8) src (length src)
-  accepted = ap (λ (r : Room). sliced_in r s c src) (slice_fits _ _ _ f)
+  accepted = ap (λ (r : Result ⊤ BitRefusal). sliced_in r s c src) (slice_fits _ _ _ f)
 
-  pub slice-found : read_slice_of (length (sliced_of s c src)) c (length src) ≡ slice.Got (record { start = bytes (place c / 8); len = bytes (length src) }) (moved_by c (length src * 8))
+  pub slice-found : read_slice_of (length (sliced_of s c src)) c (length src) ≡ Ok (record { value = record { start = bytes (place c / 8); len = bytes (length src) }; next = moved_by c (length src * 8) })
   slice-found =
       ap (λ (m : ℕ). read_slice_of m c (length src)) (ap length accepted ∙ length-pasted s src (place c / 8) f.inside)
-      ∙ ap (λ (r : Room). read_slice_in r c (length src)) (slice_fits _ _ _ f)
+      ∙ ap (λ (r : Result ⊤ BitRefusal). read_slice_in r c (length src)) (slice_fits _ _ _ f)
 
   pub slice_back : part_of (sliced_of s c src) (record { start = bytes (place c / 8); len = bytes (length src) }) ≡ src
   slice_back = ap (λ (l : List ℕ). take (length src) (drop (place c / 8) l)) accepted ∙ part-back s src (place c / 8) f.inside
 
 -- ## Refusal 2
 
-read-refused : (r : Room) (c : Cursor) (n : ℕ) (e : BitRefusal) → read_slice_in r c n ≡ slice.Refused e → r ≡ room.Refused e
-read-refused room.Fits c n e h = let z : ◌≡◌ {A = ℕ} 0 1 = cc in absurd (omega arith)
-read-refused (room.Refused x) c n e h = let z : x ≡ e = cc in ap room.Refused z
+read-refused : (r : Result ⊤ BitRefusal) (c : Cursor) (n : ℕ) (e : BitRefusal) → read_slice_in r c n ≡ Err e → r ≡ Err e
+read-refused (Ok u) c n e h = cc
+read-refused (Err x) c n e h = cc
 
-write-refused : (r : Room) (c : Cursor) (n : ℕ) (e : BitRefusal) → advance_in r c n ≡ moved.Refused e → r ≡ room.Refused e
-write-refused room.Fits c n e h = let z : ◌≡◌ {A = ℕ} 0 1 = cc in absurd (omega arith)
-write-refused (room.Refused x) c n e h = let z : x ≡ e = cc in ap room.Refused z
+write-refused : (r : Result ⊤ BitRefusal) (c : Cursor) (n : ℕ) (e : BitRefusal) → advance_in r c n ≡ Err e → r ≡ Err e
+write-refused (Ok u) c n e h = cc
+write-refused (Err x) c n e h = cc
 
 -- what `read_slice` says of n bytes from a cursor on ..
-pub read_short : (len : ℕ) (c : Cursor) (n : ℕ) (asked available : ByteCount) → read_slice_of len c n ≡ slice.Refused (OutOfBytes asked available) → Short len (place c) n asked available
+pub read_short : (len : ℕ) (c : Cursor) (n : ℕ) (asked available : ByteCount) → read_slice_of len c n ≡ Err (OutOfBytes asked available) → Short len (place c) n asked available
 read_short len c n asked available h = short len (place c) n asked available (read-refused (slice_room_of len (place c) n) c n _ h)
 
 -- .. `write_slice` says as well
-pub write-short : (len : ℕ) (c : Cursor) (n : ℕ) (asked available : ByteCount) → write_slice_of len c n ≡ moved.Refused (OutOfBytes asked available) → Short len (place c) n asked available
+pub write-short : (len : ℕ) (c : Cursor) (n : ℕ) (asked available : ByteCount) → write_slice_of len c n ≡ Err (OutOfBytes asked available) → Short len (place c) n asked available
 write-short len c n asked available h = short len (place c) n asked available (write-refused (slice_room_of len (place c) n) c (n * 8) _ h)

@@ -67,50 +67,11 @@ pub enum BitRefusal {
     },
 }
 
-// What stands in the way of a call: nothing, or its refusal.
+// What a read answers: what it read and the moved cursor.
 #[derive(Clone, Copy)]
-pub enum Room {
-    Fits,
-    Refused(BitRefusal),
-}
-
-// The answers of the reads: the number and the moved cursor, or the refusal.
-#[derive(Clone, Copy)]
-pub enum ReadU64 {
-    Got { value: u64, next: Cursor },
-    Refused(BitRefusal),
-}
-
-#[derive(Clone, Copy)]
-pub enum ReadU32 {
-    Got { value: u32, next: Cursor },
-    Refused(BitRefusal),
-}
-
-#[derive(Clone, Copy)]
-pub enum ReadU16 {
-    Got { value: u16, next: Cursor },
-    Refused(BitRefusal),
-}
-
-#[derive(Clone, Copy)]
-pub enum ReadU8 {
-    Got { value: u8, next: Cursor },
-    Refused(BitRefusal),
-}
-
-// The answer of `read_slice`: where the bytes stand in the buffer.
-#[derive(Clone, Copy)]
-pub enum ReadSlice {
-    Got { part: Part, next: Cursor },
-    Refused(BitRefusal),
-}
-
-// The answer of a call that hands out no number: the moved cursor.
-#[derive(Clone, Copy)]
-pub enum Moved {
-    To { next: Cursor },
-    Refused(BitRefusal),
+pub struct Read<T> {
+    pub value: T,
+    pub next: Cursor,
 }
 
 impl Cursor {

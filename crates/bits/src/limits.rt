@@ -2,7 +2,7 @@
 ghost use Rattle.std.specs.Prelude.{◌≡◌, ◌+◌, ◌-◌, ◌*◌, ◌<◌, ◌≤◌, min};
 ghost use Rattle.bits.specs.Calls.{room_of, slice_room_of, saturated};
 
-use crate::{BitPos, BitRefusal, ByteCount, Room};
+use crate::{BitPos, BitRefusal, ByteCount};
 
 const BUFFER_MAX: usize = 65536;
 
@@ -44,54 +44,54 @@ pub(crate) fn bits_of(len: usize) -> usize
 
 // A call of n bits, at most max, at bit `at` of a buffer of len bytes. For those that ask before they
 // write.
-pub fn room_for(len: usize, at: usize, n: u32, max: u32) -> Room
+pub fn room_for(len: usize, at: usize, n: u32, max: u32) -> Result<(), BitRefusal>
     ensures { result ≡ room_of len at n max }
 {
     if BUFFER_MAX < len {
-        return Room::Refused(BitRefusal::BufferTooLong {
+        return Err(BitRefusal::BufferTooLong {
             length: ByteCount(len),
         });
     }
     if n == 0 {
-        return Room::Refused(BitRefusal::TooLongForType {
+        return Err(BitRefusal::TooLongForType {
             max: WIDTH_MAX,
             asked: n,
         });
     }
     if max < n {
-        return Room::Refused(BitRefusal::TooLongForType { max, asked: n });
+        return Err(BitRefusal::TooLongForType { max, asked: n });
     }
     let m = n as usize;
     let left = less(len * 8, at);
     if left < m {
-        return Room::Refused(BitRefusal::OutOfBits {
+        return Err(BitRefusal::OutOfBits {
             asked: BitPos(m),
             available: BitPos(left),
         });
     }
-    Room::Fits
+    Ok(())
 }
 
 // A call of n bytes at bit `at` of a buffer of len bytes.
-pub(crate) fn slice_room_for(len: usize, at: usize, n: usize) -> Room
+pub(crate) fn slice_room_for(len: usize, at: usize, n: usize) -> Result<(), BitRefusal>
     ensures { result ≡ slice_room_of len at n }
 {
     if BUFFER_MAX < len {
-        return Room::Refused(BitRefusal::BufferTooLong {
+        return Err(BitRefusal::BufferTooLong {
             length: ByteCount(len),
         });
     }
     if at % 8 != 0 {
-        return Room::Refused(BitRefusal::NonAlignedBit { cursor: BitPos(at) });
+        return Err(BitRefusal::NonAlignedBit { cursor: BitPos(at) });
     }
     let end = sum(at / 8, n);
     let left = less(len * 8, at) / 8;
     // The end decides, not the bytes left: past the end an empty slice asks for no more than these, and is refused.
     if len < end {
-        return Room::Refused(BitRefusal::OutOfBytes {
+        return Err(BitRefusal::OutOfBytes {
             asked: ByteCount(n),
             available: ByteCount(left),
         });
     }
-    Room::Fits
+    Ok(())
 }

@@ -6,9 +6,7 @@ use Prim.Native.Nat.{ℕ, ◌+◌, ◌*◌}
 use native.Mathlib.Omega.{arith}
 use Rattle.bits.specs.Bits.{sum_bits, put_bit, from_bits_lem}
 use Rattle.bits.specs.declared.BitRefusal.TheVariants.{TooLongForType, OutOfBits, OutOfBytes, NonAlignedBit}
-use Rattle.bits.specs.declared.Moved.TheVariants as moved
-use Rattle.bits.specs.declared.ReadU64.TheVariants as read64
-use Rattle.bits.specs.declared.ReadSlice.TheVariants as slice
+use Rattle.std.specs.Prelude.{Ok, Err}
 use lib.IntN.{pos, negsuc}
 use lib.Ieee.{fin, binary32, binary64, of_int, round, units, odd, size, span, climb, of_bits, of_fields, div, add, sub, sum, le, lt, eq}
 use mathlib.Core.Bool.{Bool, true, false}
@@ -51,16 +49,16 @@ use Rattle.printing.specs.Text.{answered, printed}
 -- Bit calls.
 
 -- "F0 1F, cursor 4, 9 bits: 511"
-nine-bits : read_u64_of (0xF0 ∷ 0x1F ∷ []) (cursor_at 4) 9 ≡ read64.Got 511 (cursor_at 13)
+nine-bits : read_u64_of (0xF0 ∷ 0x1F ∷ []) (cursor_at 4) 9 ≡ Ok (record { value = 511; next = cursor_at 13 })
 unfolding sum_bits
 nine-bits = refl
 
 -- "Empty slice at 16 of 2 bytes: accepted; ..
-empty-at-the-end : read_slice_of 2 (cursor_at 16) 0 ≡ slice.Got (record { start = bytes 2; len = bytes 0 }) (cursor_at 16)
+empty-at-the-end : read_slice_of 2 (cursor_at 16) 0 ≡ Ok (record { value = record { start = bytes 2; len = bytes 0 }; next = cursor_at 16 })
 empty-at-the-end = refl
 
 -- .. at 24:", since document 02, §2, "asked 0, available 0"
-empty-past-the-end : read_slice_of 2 (cursor_at 24) 0 ≡ slice.Refused (OutOfBytes (bytes 0) (bytes 0))
+empty-past-the-end : read_slice_of 2 (cursor_at 24) 0 ≡ Err (OutOfBytes (bytes 0) (bytes 0))
 empty-past-the-end = refl
 
 -- "Write 3 bits of 13 at 6 in 00 00: 40 01": the buffer, and the answer
@@ -68,7 +66,7 @@ three-of-thirteen : written_of (0x00 ∷ 0x00 ∷ []) (cursor_at 6) 3 64 13 ≡ 
 unfolding sum_bits put_bit from_bits_lem
 three-of-thirteen = refl
 
-three-are-accepted : advance_of 2 (cursor_at 6) 3 64 ≡ moved.To (cursor_at 9)
+three-are-accepted : advance_of 2 (cursor_at 6) 3 64 ≡ Ok (cursor_at 9)
 three-are-accepted = refl
 
 -- Numbers.

@@ -4,10 +4,9 @@ use mathlib.Core.Bool.{Bool, true, false}
 use Prim.Native.Nat.{ℕ, ◌+◌, ◌-◌, ◌*◌, ◌/◌}
 use native.Mathlib.Omega.{arith}
 use lib.Dec.{eqb, ltb}
-use Rattle.std.specs.Prelude.{Result, Ok, Err}
+use Rattle.bits.specs.declared.BitRefusal.{BitRefusal}
+use Rattle.std.specs.Prelude.{Result, Ok, Err, ⊤}
 use Rattle.bits.specs.Bits.{pick}
-use Rattle.bits.specs.declared.Room.{Room}
-use Rattle.bits.specs.declared.Room.TheVariants as room
 use Rattle.tables.specs.Check.{payload_max}
 use Rattle.fields.specs.declared.DecodeRefusal.{DecodeRefusal}
 use Rattle.fields.specs.declared.DecodeRefusal.TheVariants.{BitReaderError, InvalidDataLength, RepetitionsExceedCapacity, WrongLength, TableRefused, NoRoom}
@@ -17,10 +16,10 @@ use Rattle.fields.specs.Payload.{Payload}
 use Rattle.fields.specs.Taken.{if_room_lem, short_of, room_at, bytes_room_lem, text_room_lem, fixed_bytes_lem, lau_taken, closed_at_lem, lz_taken, taken_by}
 use Rattle.fields.proofs.Cut.{in_bits}
 
-module _ (Q : Room → Type 0) where
+module _ (Q : Result ⊤ BitRefusal → Type 0) where
   -- the refusal is 4, or one of a bit call of which Q holds; a field gives no other
   abbrev pub Against : DecodeRefusal → Type 0
-  Against (BitReaderError i e) = Q (room.Refused e)
+  Against (BitReaderError i e) = Q (Err e)
   Against (InvalidDataLength i) = Unit {0}
   Against (RepetitionsExceedCapacity set count maximum) = ⊥
   Against (WrongLength n) = ⊥
@@ -31,27 +30,27 @@ module _ (Q : Room → Type 0) where
   Meets (Ok n) = Unit {0}
   Meets (Err f) = Against f
 
-  if-room : (r : Room) (i : ℕ) (later : Result ℕ DecodeRefusal) → Q r → (r ≡ room.Fits → Meets later) → Meets (if_room_lem r i later)
-  if-room room.Fits i later a h = h refl
-  if-room (room.Refused e) i later a h = a
+  if-room : (r : Result ⊤ BitRefusal) (i : ℕ) (later : Result ℕ DecodeRefusal) → Q r → (r ≡ Ok tt → Meets later) → Meets (if_room_lem r i later)
+  if-room (Ok u) i later a h = h refl
+  if-room (Err e) i later a h = a
 
-  short-of : (strict : Bool) (i : ℕ) (r : Room) (n : ℕ) → Q r → Meets (short_of strict i r (Ok n))
-  short-of true i room.Fits n a = tt
-  short-of false i room.Fits n a = tt
-  short-of true i (room.Refused e) n a = tt
-  short-of false i (room.Refused e) n a = a
+  short-of : (strict : Bool) (i : ℕ) (r : Result ⊤ BitRefusal) (n : ℕ) → Q r → Meets (short_of strict i r (Ok n))
+  short-of true i (Ok u) n a = tt
+  short-of false i (Ok u) n a = tt
+  short-of true i (Err e) n a = tt
+  short-of false i (Err e) n a = a
 
   either : (b : Bool) (x y : Result ℕ DecodeRefusal) → Meets x → Meets y → Meets (pick b x y)
   either true x y h k = h
   either false x y h k = k
 
   -- From: where bytes may be asked for
-  module _ (p : Payload) (From : ℕ → Type 0) (fits : Q room.Fits) (byte : (at : ℕ) → Q (room_at p at 8))
-      (after : (at next : ℕ) → next ≡ at + 8 → room_at p at 8 ≡ room.Fits → From next) (slice : (at n : ℕ) → From at → Q (bytes_room_lem p at n)) where
+  module _ (p : Payload) (From : ℕ → Type 0) (fits : Q (Ok tt)) (byte : (at : ℕ) → Q (room_at p at 8))
+      (after : (at next : ℕ) → next ≡ at + 8 → room_at p at 8 ≡ Ok tt → From next) (slice : (at n : ℕ) → From at → Q (bytes_room_lem p at n)) where
     text : (at n : ℕ) → From at → Q (text_room_lem p at n)
     text at n l = go (eqb n 0)
       where
-        go : (b : Bool) → Q (pick b room.Fits (bytes_room_lem p at n))
+        go : (b : Bool) → Q (pick b (Ok tt) (bytes_room_lem p at n))
         go true = fits
         go false = slice at n l
 

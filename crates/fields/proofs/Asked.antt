@@ -3,7 +3,7 @@
 use mathlib.Core.Bool.{Bool}
 use Prim.Native.Nat.{ℕ, ◌*◌, ◌≤◌}
 use native.Mathlib.Omega.{arith}
-use Rattle.bits.specs.declared.Room.TheVariants as room
+use Rattle.std.specs.Prelude.{Err}
 use Rattle.bits.proofs.Rooms.{Above, number-above, slice-above, fitting}
 use Rattle.descriptor.specs.declared.FieldDescriptor.{FieldDescriptor}
 use Rattle.fields.specs.declared.DecodeRefusal.{DecodeRefusal}
@@ -15,7 +15,7 @@ use Rattle.fields.proofs.Against.{Against, Meets, taken-meets}
 
 -- in a refusal 2 at a field asked is above available; of any other it says nothing
 abbrev pub Asks : DecodeRefusal → Type 0
-Asks (BitReaderError i e) = Above (room.Refused e)
+Asks (BitReaderError i e) = Above (Err e)
 Asks (InvalidDataLength i) = Unit {0}
 Asks (RepetitionsExceedCapacity set count maximum) = Unit {0}
 Asks (WrongLength n) = Unit {0}

@@ -10,7 +10,6 @@ use Rattle.std.specs.Prelude.{Ok}
 use Rattle.bits.specs.Bits.{pick}
 use Rattle.bits.specs.Calls.{bits, refuse, room_of, width_max}
 use Rattle.bits.specs.declared.BitRefusal.TheVariants.{OutOfBits}
-use Rattle.bits.specs.declared.Room.TheVariants as room
 use Rattle.descriptor.specs.declared.FieldKind.{FieldKind}
 use Rattle.descriptor.specs.declared.FieldKind.TheVariants as kind
 use Rattle.tables.specs.Table.{Table}
@@ -61,14 +60,14 @@ bits-width kind.Time w s h = between 1 64 w h
 bits-width kind.Decimal w s h = between 1 64 w h
 bits-width kind.Unimplemented w s h = between 1 64 w h
 
-pub room-only : (size at w : ℕ) → size ≤ payload_max → 1 ≤ w → w ≤ 64 → room_of size at w width_max ≡ refuse (ltb (size * 8) (at + w)) (OutOfBits (bits w) (bits (size * 8 - at))) room.Fits
+pub room-only : (size at w : ℕ) → size ≤ payload_max → 1 ≤ w → w ≤ 64 → room_of size at w width_max ≡ refuse (ltb (size * 8) (at + w)) (OutOfBits (bits w) (bits (size * 8 - at))) (Ok tt)
 room-only size at w l a b =
     let m : size ≤ 65536 = omega (arith, l) in
     let n : w ≡ 0 → ⊥ = λ z. omega (arith, z, a) in
     rw (le-ltb 65536 size m, ne_eqb w 0 n, le-ltb 64 w b)
 
 pub cut_short : (t : Table) → check_of t ≡ Ok tt → (i : ℕ) → i < t.count → in_bits (shape_of (t.field i)) ≡ true → (size : ℕ) → size ≤ payload_max → (at : ℕ)
-    → room_of size at (t.field i).width width_max ≡ refuse (ltb (size * 8) (at + (t.field i).width)) (OutOfBits (bits (t.field i).width) (bits (size * 8 - at))) room.Fits
+    → room_of size at (t.field i).width width_max ≡ refuse (ltb (size * 8) (at + (t.field i).width)) (OutOfBits (bits (t.field i).width) (bits (size * 8 - at))) (Ok tt)
 cut_short t ok i l s size small at =
     let w = bits-width (t.field i).kind (t.field i).width s (widths t ok i l) in
     room-only size at (t.field i).width small w.0 w.1

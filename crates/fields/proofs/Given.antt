@@ -6,13 +6,12 @@ use Prim.Native.Nat.{ℕ, ◌+◌, ◌-◌, ◌*◌, ◌/◌, ◌%◌, ◌≤◌
 use native.Mathlib.Omega.{arith}
 use lib.Dec.{eqb, ltb}
 use borrow.Author.Tests.{le-ltb}
-use Rattle.std.specs.Prelude.{Result, Ok, Err}
+use Rattle.bits.specs.declared.BitRefusal.{BitRefusal}
+use Rattle.std.specs.Prelude.{Result, Ok, Err, ⊤}
 use Rattle.bits.specs.Calls.{bits, refuse, room_of, out_of_bytes, width_max}
 use Rattle.bits.specs.declared.BitPos.{BitPos}
 use Rattle.bits.specs.declared.ByteCount.{ByteCount}
 use Rattle.bits.specs.declared.BitRefusal.TheVariants.{NonAlignedBit, OutOfBits, OutOfBytes}
-use Rattle.bits.specs.declared.Room.{Room}
-use Rattle.bits.specs.declared.Room.TheVariants as room
 use Rattle.tables.specs.Table.{Table}
 use Rattle.tables.specs.Check.{check_of, payload_max}
 use Rattle.fields.specs.declared.DecodeRefusal.{DecodeRefusal}
@@ -27,13 +26,13 @@ use Rattle.fields.proofs.Against.{Meets, taken-meets}
 -- ## Bit calls
 
 -- "beyond the buffer" and "byte slice at a cursor not a multiple of 8"
-pub data Fair : Room → Type 0 where
-  fits : Fair room.Fits
-  beyond-bits : {asked there : BitPos} → Fair (room.Refused (OutOfBits asked there))
-  beyond-bytes : {asked there : ByteCount} → Fair (room.Refused (OutOfBytes asked there))
-  unaligned : {at : BitPos} → Fair (room.Refused (NonAlignedBit at))
+pub data Fair : Result ⊤ BitRefusal → Type 0 where
+  fits : Fair (Ok tt)
+  beyond-bits : {asked there : BitPos} → Fair (Err (OutOfBits asked there))
+  beyond-bytes : {asked there : ByteCount} → Fair (Err (OutOfBytes asked there))
+  unaligned : {at : BitPos} → Fair (Err (NonAlignedBit at))
 
-beyond : (size at w : ℕ) (b : Bool) → Fair (refuse b (OutOfBits (bits w) (bits (size * 8 - at))) room.Fits)
+beyond : (size at w : ℕ) (b : Bool) → Fair (refuse b (OutOfBits (bits w) (bits (size * 8 - at))) (Ok tt))
 beyond size at w true = beyond-bits
 beyond size at w false = fits
 
@@ -51,7 +50,7 @@ module _ (p : Payload) (small : p.size ≤ payload_max) (at : ℕ) where
   bytes-fair : (n : ℕ) → Fair (bytes_room_lem p at n)
   bytes-fair n = rw (le-ltb 65536 p.size (omega (arith, small))) (go (not (eqb (at % 8) 0)) (ltb p.size (at / 8 + n)))
     where
-      go : (a b : Bool) → Fair (refuse a (NonAlignedBit (bits at)) (refuse b (out_of_bytes p.size at n) room.Fits))
+      go : (a b : Bool) → Fair (refuse a (NonAlignedBit (bits at)) (refuse b (out_of_bytes p.size at n) (Ok tt)))
       go true b = unaligned
       go false true = beyond-bytes
       go false false = fits
@@ -63,7 +62,7 @@ abbrev pub Given : Result ℕ DecodeRefusal → Type 0
 Given (Ok n) = Unit {0}
 Given (Err f) = given_in_walk (number_of f) ≡ true
 
-fair-given : {r : Room} (i : ℕ) → Fair r → Given (if_room_lem r i (Ok 0))
+fair-given : {r : Result ⊤ BitRefusal} (i : ℕ) → Fair r → Given (if_room_lem r i (Ok 0))
 fair-given i fits = tt
 fair-given i beyond-bits = refl
 fair-given i beyond-bytes = refl

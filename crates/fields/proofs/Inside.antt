@@ -5,10 +5,9 @@ use Prim.Native.Nat.{ℕ, ◌+◌, ◌-◌, ◌*◌, ◌/◌, ◌≤◌}
 use native.Mathlib.Omega.{arith}
 use lib.Dec.{eqb, ltb}
 use borrow.Author.Tests.{eqb-true}
-use Rattle.std.specs.Prelude.{Result, Ok, Err}
+use Rattle.bits.specs.declared.BitRefusal.{BitRefusal}
+use Rattle.std.specs.Prelude.{Result, Ok, Err, ⊤}
 use Rattle.bits.specs.Bits.{pick}
-use Rattle.bits.specs.declared.Room.{Room}
-use Rattle.bits.specs.declared.Room.TheVariants as room
 use Rattle.bits.proofs.Rooms.{fitting, whole}
 use Rattle.tables.specs.Check.{payload_max}
 use Rattle.fields.specs.declared.DecodeRefusal.{DecodeRefusal}
@@ -27,38 +26,38 @@ module _ (p : Payload) (at : ℕ) where
     inside : {n : ℕ} → Fits n → Inside (Ok n)
     refused : {e : DecodeRefusal} → Inside (Err e)
 
-  if-room : (r : Room) (i : ℕ) (later : Result ℕ DecodeRefusal) → (r ≡ room.Fits → Inside later) → Inside (if_room_lem r i later)
-  if-room room.Fits i later h = h refl
-  if-room (room.Refused e) i later h = refused
+  if-room : (r : Result ⊤ BitRefusal) (i : ℕ) (later : Result ℕ DecodeRefusal) → (r ≡ Ok tt → Inside later) → Inside (if_room_lem r i later)
+  if-room (Ok u) i later h = h refl
+  if-room (Err e) i later h = refused
 
-  short-of : (strict : Bool) (i : ℕ) (r : Room) (later : Result ℕ DecodeRefusal) → (r ≡ room.Fits → Inside later) → Inside (short_of strict i r later)
-  short-of true i room.Fits later h = h refl
-  short-of false i room.Fits later h = h refl
-  short-of true i (room.Refused e) later h = refused
-  short-of false i (room.Refused e) later h = refused
+  short-of : (strict : Bool) (i : ℕ) (r : Result ⊤ BitRefusal) (later : Result ℕ DecodeRefusal) → (r ≡ Ok tt → Inside later) → Inside (short_of strict i r later)
+  short-of true i (Ok u) later h = h refl
+  short-of false i (Ok u) later h = h refl
+  short-of true i (Err e) later h = refused
+  short-of false i (Err e) later h = refused
 
   if-either : (b : Bool) (x y : Result ℕ DecodeRefusal) → (b ≡ true → Inside x) → (b ≡ false → Inside y) → Inside (pick b x y)
   if-either true x y h k = h refl
   if-either false x y h k = k refl
 
   -- a number of n bits
-  number_in : (n : ℕ) → room_at p at n ≡ room.Fits → Inside (Ok n)
+  number_in : (n : ℕ) → room_at p at n ≡ Ok tt → Inside (Ok n)
   number_in n h = let f = fitting p.size at n 64 h in inside (f.inside, f.short)
 
   -- n whole bytes
-  bytes-in : (n : ℕ) → bytes_room_lem p at n ≡ room.Fits → Inside (Ok (8 * n))
+  bytes-in : (n : ℕ) → bytes_room_lem p at n ≡ Ok tt → Inside (Ok (8 * n))
   bytes-in n h = let w = whole p.size at n h in inside {n = 8 * n} (omega (arith, w.aligned, w.inside), w.short)
 
   -- n bytes of text after the first bits of the field
-  text_in : (before n : ℕ) → Fits before → text_room_lem p (at + before) n ≡ room.Fits → Fits (before + 8 * n)
+  text_in : (before n : ℕ) → Fits before → text_room_lem p (at + before) n ≡ Ok tt → Fits (before + 8 * n)
   text_in before n f h = go (eqb n 0) refl h
     where
-      go : (b : Bool) → eqb n 0 ≡ b → pick b room.Fits (bytes_room_lem p (at + before) n) ≡ room.Fits → Fits (before + 8 * n)
+      go : (b : Bool) → eqb n 0 ≡ b → pick b (Ok tt) (bytes_room_lem p (at + before) n) ≡ Ok tt → Fits (before + 8 * n)
       go true q e = let z = eqb-true n 0 q in (omega (arith, z, f.0), f.1)
       go false q e = let w = whole p.size (at + before) n e in (omega (arith, w.aligned, w.inside), w.short)
 
   -- one byte more, after the first bits of the field
-  byte-in : (before : ℕ) → room_at p (at + before) 8 ≡ room.Fits → Fits (before + 8)
+  byte-in : (before : ℕ) → room_at p (at + before) 8 ≡ Ok tt → Fits (before + 8)
   byte-in before h = let f = fitting p.size (at + before) 8 64 h in (omega (arith, f.inside), f.short)
 
   closed_in : (n : ℕ) → Fits n → Fits (closed_at_lem p at n)
@@ -68,11 +67,11 @@ module _ (p : Payload) (at : ℕ) where
       more true h = h
       more false h = f
 
-      go : (r : Room) → room_at p (at + n) 8 ≡ r → Fits (closed_by r (p.bits (at + n) 8) n)
-      go room.Fits e = more (eqb (p.bits (at + n) 8) 0) (byte-in n e)
-      go (room.Refused x) e = f
+      go : (r : Result ⊤ BitRefusal) → room_at p (at + n) 8 ≡ r → Fits (closed_by r (p.bits (at + n) 8) n)
+      go (Ok u) e = more (eqb (p.bits (at + n) 8) 0) (byte-in n e)
+      go (Err x) e = f
 
-  first_byte : room_at p at 8 ≡ room.Fits → Fits 8
+  first_byte : room_at p at 8 ≡ Ok tt → Fits 8
   first_byte h = let f = fitting p.size at 8 64 h in (f.inside, f.short)
 
   lau-in : (i len : ℕ) → Fits 8 → Inside (lau_taken p i at len)

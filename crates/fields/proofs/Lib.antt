@@ -1,5 +1,3 @@
--- what the bit calls say of the room in a payload
-pub mod Rooms
 -- how numbers, gaps, texts and bytes are read once the bit calls have said what room there is
 pub mod Spelled
 -- a value that is no text is not made unavailable by the rule for texts

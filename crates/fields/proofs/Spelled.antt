@@ -6,18 +6,12 @@ use Prim.Native.Nat.{ℕ, ◌+◌, ◌-◌, ◌*◌, ◌/◌, ◌≤◌, ◌<◌
 use native.Mathlib.Omega.{arith}
 use lib.Dec.{ltb}
 use borrow.Author.Tests.{le-ltb, lt-ltb}
-use Rattle.std.specs.Prelude.{Some, None, Result, Ok, Err}
+use Rattle.bits.specs.declared.BitRefusal.{BitRefusal}
+use Rattle.bits.specs.declared.Read.{Read}
+use Rattle.std.specs.Prelude.{Some, None, Result, Ok, Err, ⊤}
 use Rattle.bits.specs.Bits.{pick, bits_at}
-use Rattle.bits.specs.Calls.{bits, cursor_at, place, read_in, as8, advance_in}
+use Rattle.bits.specs.Calls.{bits, cursor_at, read_in, advance_in}
 use Rattle.bits.specs.declared.Cursor.{Cursor}
-use Rattle.bits.specs.declared.Room.{Room}
-use Rattle.bits.specs.declared.Room.TheVariants as room
-use Rattle.bits.specs.declared.ReadU64.{ReadU64}
-use Rattle.bits.specs.declared.ReadU64.TheVariants as read64
-use Rattle.bits.specs.declared.Moved.{Moved}
-use Rattle.bits.specs.declared.Moved.TheVariants as moved
-use Rattle.bits.specs.declared.ReadU8.{ReadU8}
-use Rattle.bits.specs.declared.ReadU8.TheVariants as read8
 use Rattle.descriptor.specs.declared.FieldDescriptor.{FieldDescriptor}
 use Rattle.numbers.specs.Scaling.{scale_of}
 use Rattle.tables.specs.Check.{payload_max}
@@ -35,15 +29,15 @@ eighth : (n : ℕ) → 8 * n / 8 ≡ n
 eighth n = omega arith
 
 -- a StringFix, and a Binary of whole bytes
-pub fixed-text : (r : Room) (f : FieldDescriptor) (p : Payload) (i at n : ℕ)
+pub fixed-text : (r : Result ⊤ BitRefusal) (f : FieldDescriptor) (p : Payload) (i at n : ℕ)
     → text_read_lem r i (8 * n) (at / 8) n None ≡ read_over (if_room_lem r i (Ok (8 * n))) shape.Fixed f p at
-fixed-text room.Fits f p i at n = ap (λ (k : ℕ). Ok (read.Got (bits (8 * n)) None (text_at_lem (at / 8) k None))) (sym (eighth n))
-fixed-text (room.Refused e) f p i at n = refl
+fixed-text (Ok u) f p i at n = ap (λ (k : ℕ). Ok (read.Got (bits (8 * n)) None (text_at_lem (at / 8) k None))) (sym (eighth n))
+fixed-text (Err e) f p i at n = refl
 
-pub whole-text : (r : Room) (f : FieldDescriptor) (p : Payload) (i at n : ℕ)
+pub whole-text : (r : Result ⊤ BitRefusal) (f : FieldDescriptor) (p : Payload) (i at n : ℕ)
     → text_read_lem r i (8 * n) (at / 8) n None ≡ read_over (if_room_lem r i (Ok (8 * n))) shape.Whole f p at
-whole-text room.Fits f p i at n = ap (λ (k : ℕ). Ok (read.Got (bits (8 * n)) None (text_at_lem (at / 8) k None))) (sym (eighth n))
-whole-text (room.Refused e) f p i at n = refl
+whole-text (Ok u) f p i at n = ap (λ (k : ℕ). Ok (read.Got (bits (8 * n)) None (text_at_lem (at / 8) k None))) (sym (eighth n))
+whole-text (Err e) f p i at n = refl
 
 -- a StringFix takes at most its size
 min-le : (a b : ℕ) → min a b ≤ a
@@ -55,17 +49,6 @@ fixed-le p early at w = go (early && ltb 32 (w / 8))
     go : (b : Bool) → pick b (min (w / 8) (bits_left p at / 8)) (w / 8) ≤ w / 8
     go true = min-le _ _
     go false = omega arith
-
--- ## What a read says
-
-module _ (s : List ℕ) (c : Cursor) (n v : ℕ) (d : Cursor) where
-  pub got-fits : (r : Room) → read_in r s c n ≡ read64.Got v d → r ≡ room.Fits
-  got-fits room.Fits h = refl
-  got-fits (room.Refused e) h = cc
-
-  pub got-value : (r : Room) → read_in r s c n ≡ read64.Got v d → v ≡ bits_at s (place c) n
-  got-value room.Fits h = cc
-  got-value (room.Refused e) h = cc
 
 -- ## StringLau
 
@@ -91,48 +74,48 @@ module _ (f : FieldDescriptor) (s : List ℕ) (i at len : ℕ) where
   lau-more : 2 ≤ len → rest ≡ pick (ltb len 2) (Ok 8) rest
   lau-more l = ap (λ (b : Bool). pick b (Ok 8) rest) (sym (le-ltb len 2 l))
 
-  pub lau-empty : len ≤ payload_max → len < 2 → text_read_lem room.Fits i 8 0 0 None ≡ read_over (lau_taken p i at len) shape.Lau f p at
+  pub lau-empty : len ≤ payload_max → len < 2 → text_read_lem (Ok tt) i 8 0 0 None ≡ read_over (lau_taken p i at len) shape.Lau f p at
   lau-empty l m = ap (λ (t : Result ℕ DecodeRefusal). read_over t shape.Lau f p at) (lau-none m ∙ short-enough i len _ l)
 
   -- the encoding byte as it was read
-  abbrev pub lau_says : ReadU8 → Result FieldRead DecodeRefusal
-  lau_says (read8.Got v d) = text_read_lem (text_room_lem p (at + 16) (len - 2)) i (16 + 8 * (len - 2)) (at / 8 + 2) (len - 2) (Some v)
-  lau_says (read8.Refused e) = refused_of i e
+  abbrev pub lau_says : Result (Read ℕ) BitRefusal → Result FieldRead DecodeRefusal
+  lau_says (Ok a) = text_read_lem (text_room_lem p (at + 16) (len - 2)) i (16 + 8 * (len - 2)) (at / 8 + 2) (len - 2) (Some a.value)
+  lau_says (Err e) = refused_of i e
 
-  text_in : (r : Room) → text_read_lem r i (16 + 8 * (len - 2)) (at / 8 + 2) (len - 2) (Some (p.bits (at + 8) 8))
+  text_in : (r : Result ⊤ BitRefusal) → text_read_lem r i (16 + 8 * (len - 2)) (at / 8 + 2) (len - 2) (Some (p.bits (at + 8) 8))
       ≡ read_over (if_room_lem r i (Ok (16 + 8 * (len - 2)))) shape.Lau f p at
-  text_in room.Fits =
+  text_in (Ok u) =
       let k : len - 2 ≡ (16 + 8 * (len - 2)) / 8 - 2 = omega arith in
       let b : ltb (16 + 8 * (len - 2)) 16 ≡ false = le-ltb (16 + 8 * (len - 2)) 16 (omega arith) in
       ap₂ (λ (x : ℕ) (y : Bool). Ok (read.Got (bits (16 + 8 * (len - 2))) None (text_at_lem (at / 8 + 2) x (pick y None (Some (p.bits (at + 8) 8)))))) k (sym b)
-  text_in (room.Refused e) = refl
+  text_in (Err e) = refl
 
-  lau-says : (r : Room) → lau_says (as8 (read_in r s (cursor_at (at + 8)) 8))
+  lau-says : (r : Result ⊤ BitRefusal) → lau_says (read_in r s (cursor_at (at + 8)) 8)
       ≡ read_over (if_room_lem r i (if_room_lem (text_room_lem p (at + 16) (len - 2)) i (Ok (16 + 8 * (len - 2))))) shape.Lau f p at
-  lau-says room.Fits = text_in (text_room_lem p (at + 16) (len - 2))
-  lau-says (room.Refused e) = refl
+  lau-says (Ok u) = text_in (text_room_lem p (at + 16) (len - 2))
+  lau-says (Err e) = refl
 
-  pub lau-text : len ≤ payload_max → 2 ≤ len → lau_says (as8 (read_in (room_at p (at + 8) 8) s (cursor_at (at + 8)) 8)) ≡ read_over (lau_taken p i at len) shape.Lau f p at
+  pub lau-text : len ≤ payload_max → 2 ≤ len → lau_says (read_in (room_at p (at + 8) 8) s (cursor_at (at + 8)) 8) ≡ read_over (lau_taken p i at len) shape.Lau f p at
   lau-text l m = lau-says (room_at p (at + 8) 8) ∙ ap (λ (t : Result ℕ DecodeRefusal). read_over t shape.Lau f p at) (lau-more m ∙ short-enough i len _ l)
 
 -- ## Length bytes
 
 module _ (f : FieldDescriptor) (s : List ℕ) (i at : ℕ) (sh : Shape) (after : ℕ → Result ℕ DecodeRefusal) where
   -- the length byte as it was read, and what follows it
-  abbrev pub length_says : ReadU64 → Result FieldRead DecodeRefusal
-  length_says (read64.Got v d) = read_over (after v) sh f (payload_of s) at
-  length_says (read64.Refused e) = refused_of i e
+  abbrev pub length_says : Result (Read ℕ) BitRefusal → Result FieldRead DecodeRefusal
+  length_says (Ok a) = read_over (after a.value) sh f (payload_of s) at
+  length_says (Err e) = refused_of i e
 
-  pub length-says : (r : Room) → length_says (read_in r s (cursor_at at) 8) ≡ read_over (if_room_lem r i (after (bits_at s at 8))) sh f (payload_of s) at
-  length-says room.Fits = refl
-  length-says (room.Refused e) = refl
+  pub length-says : (r : Result ⊤ BitRefusal) → length_says (read_in r s (cursor_at at) 8) ≡ read_over (if_room_lem r i (after (bits_at s at 8))) sh f (payload_of s) at
+  length-says (Ok u) = refl
+  length-says (Err e) = refl
 
 -- ## StringLz
 
-lz-in : (r : Room) (f : FieldDescriptor) (p : Payload) (i at len n : ℕ) → len ≡ p.bits at 8
+lz-in : (r : Result ⊤ BitRefusal) (f : FieldDescriptor) (p : Payload) (i at len n : ℕ) → len ≡ p.bits at 8
     → text_read_lem r i n (at / 8 + 1) len None ≡ read_over (if_room_lem r i (Ok n)) shape.Lz f p at
-lz-in room.Fits f p i at len n h = ap (λ (x : ℕ). Ok (read.Got (bits n) None (text_at_lem (at / 8 + 1) x None))) h
-lz-in (room.Refused e) f p i at len n h = refl
+lz-in (Ok u) f p i at len n h = ap (λ (x : ℕ). Ok (read.Got (bits n) None (text_at_lem (at / 8 + 1) x None))) h
+lz-in (Err e) f p i at len n h = refl
 
 pub lz-text : (f : FieldDescriptor) (p : Payload) (i at len : ℕ) → len ≤ payload_max → len ≡ p.bits at 8
     → text_read_lem (text_room_lem p (at + 8) len) i (closed_at_lem p at (8 + 8 * len)) (at / 8 + 1) len None ≡ read_over (lz_taken p i at len) shape.Lz f p at
@@ -142,22 +125,22 @@ lz-text f p i at len l h =
 -- ## Numbers and skipped bits
 
 module _ (f : FieldDescriptor) (s : List ℕ) (i at : ℕ) where
-  abbrev pub number_says : Bool → ReadU64 → Result FieldRead DecodeRefusal
-  number_says strict (read64.Got v d) = Ok (read.Got (bits f.width) (Some v) (scale_of f v))
-  number_says true (read64.Refused e) = Err (InvalidDataLength i)
-  number_says false (read64.Refused e) = refused_of i e
+  abbrev pub number_says : Bool → Result (Read ℕ) BitRefusal → Result FieldRead DecodeRefusal
+  number_says strict (Ok a) = Ok (read.Got (bits f.width) (Some a.value) (scale_of f a.value))
+  number_says true (Err e) = Err (InvalidDataLength i)
+  number_says false (Err e) = refused_of i e
 
-  pub number-says : (strict : Bool) (r : Room) → number_says strict (read_in r s (cursor_at at) f.width)
+  pub number-says : (strict : Bool) (r : Result ⊤ BitRefusal) → number_says strict (read_in r s (cursor_at at) f.width)
       ≡ read_over (short_of strict i r (Ok f.width)) (shape.Number strict) f (payload_of s) at
-  number-says true room.Fits = refl
-  number-says false room.Fits = refl
-  number-says true (room.Refused e) = refl
-  number-says false (room.Refused e) = refl
+  number-says true (Ok u) = refl
+  number-says false (Ok u) = refl
+  number-says true (Err e) = refl
+  number-says false (Err e) = refl
 
-  abbrev pub gap_says : Moved → Result FieldRead DecodeRefusal
-  gap_says (moved.To d) = Ok (read.Skipped (bits f.width))
-  gap_says (moved.Refused e) = refused_of i e
+  abbrev pub gap_says : Result Cursor BitRefusal → Result FieldRead DecodeRefusal
+  gap_says (Ok d) = Ok (read.Skipped (bits f.width))
+  gap_says (Err e) = refused_of i e
 
-  pub gap-says : (r : Room) → gap_says (advance_in r (cursor_at at) f.width) ≡ read_over (if_room_lem r i (Ok f.width)) shape.Gap f (payload_of s) at
-  gap-says room.Fits = refl
-  gap-says (room.Refused e) = refl
+  pub gap-says : (r : Result ⊤ BitRefusal) → gap_says (advance_in r (cursor_at at) f.width) ≡ read_over (if_room_lem r i (Ok f.width)) shape.Gap f (payload_of s) at
+  gap-says (Ok u) = refl
+  gap-says (Err e) = refl

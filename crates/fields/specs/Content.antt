@@ -1,10 +1,8 @@
 -- What is read of a field, from its own bits alone: document 01, "Reading a payload", "A reading has ..".
-use Rattle.std.specs.Prelude.{ℕ, ◌+◌, ◌-◌, ◌*◌, ◌/◌, Bool, true, false, ◌||◌, ltb, eqb, Option, Some, None, Result, Ok, Err}
+use Rattle.std.specs.Prelude.{ℕ, ◌+◌, ◌-◌, ◌*◌, ◌/◌, Bool, true, false, ◌||◌, ltb, eqb, Option, Some, None, Result, Ok, Err, ⊤}
 use Rattle.bits.specs.Bits.{pick}
 use Rattle.bits.specs.Calls.{bits, bytes}
 use Rattle.bits.specs.declared.BitRefusal.{BitRefusal}
-use Rattle.bits.specs.declared.Room.{Room}
-use Rattle.bits.specs.declared.Room.TheVariants as room
 use Rattle.descriptor.specs.declared.FieldDescriptor.{FieldDescriptor}
 use Rattle.descriptor.specs.declared.PgnBytes.{PgnBytes}
 use Rattle.descriptor.specs.declared.PgnValue.{PgnValue}
@@ -103,9 +101,9 @@ refused_of i e = Err (BitReaderError i e)
 
 -- n bytes at a place, of a field that takes so many bits, if there is room for them: what the code goes by; proofs/Spelled.antt ties it
 -- to the definitions below
-abbrev pub text_read_lem : Room → ℕ → ℕ → ℕ → ℕ → Option ℕ → Result FieldRead DecodeRefusal
-text_read_lem room.Fits i taken place n enc = Ok (Got (bits taken) None (text_at_lem place n enc))
-text_read_lem (room.Refused e) i taken place n enc = refused_of i e
+abbrev pub text_read_lem : Result ⊤ BitRefusal → ℕ → ℕ → ℕ → ℕ → Option ℕ → Result FieldRead DecodeRefusal
+text_read_lem (Ok u) i taken place n enc = Ok (Got (bits taken) None (text_at_lem place n enc))
+text_read_lem (Err e) i taken place n enc = refused_of i e
 
 -- a field that takes the n bits from `at` on: "Reserved and Spare are skipped"
 abbrev pub read_as : Shape → FieldDescriptor → Payload → ℕ → ℕ → FieldRead

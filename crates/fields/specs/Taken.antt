@@ -1,10 +1,9 @@
 -- The bits that a field takes at a place, or why it cannot be read: document 01, "Reading a payload". i is the field's number, which a
 -- refusal names; `early` says that it is the last field of the table, outside a set.
-use Rattle.std.specs.Prelude.{ℕ, ◌+◌, ◌-◌, ◌*◌, ◌/◌, min, Bool, true, false, ◌&&◌, ltb, eqb, Result, Ok, Err}
+use Rattle.bits.specs.declared.BitRefusal.{BitRefusal}
+use Rattle.std.specs.Prelude.{ℕ, ◌+◌, ◌-◌, ◌*◌, ◌/◌, min, Bool, true, false, ◌&&◌, ltb, eqb, Result, Ok, Err, ⊤}
 use Rattle.bits.specs.Bits.{pick}
 use Rattle.bits.specs.Calls.{room_of, slice_room_of, width_max}
-use Rattle.bits.specs.declared.Room.{Room}
-use Rattle.bits.specs.declared.Room.TheVariants as room
 use Rattle.tables.specs.Check.{payload_max}
 use Rattle.descriptor.specs.declared.FieldDescriptor.{FieldDescriptor}
 use Rattle.fields.specs.declared.DecodeRefusal.{DecodeRefusal}
@@ -15,27 +14,27 @@ use Rattle.fields.specs.Payload.{Payload, bits_left}
 use Rattle.fields.specs.Shapes.{shape_of}
 
 -- what a bit call says against it: "1 to 3 also name the field"
-abbrev pub if_room_lem : Room → ℕ → Result ℕ DecodeRefusal → Result ℕ DecodeRefusal
-if_room_lem room.Fits i later = later
-if_room_lem (room.Refused e) i later = Err (BitReaderError i e)
+abbrev pub if_room_lem : Result ⊤ BitRefusal → ℕ → Result ℕ DecodeRefusal → Result ℕ DecodeRefusal
+if_room_lem (Ok u) i later = later
+if_room_lem (Err e) i later = Err (BitReaderError i e)
 
 -- the refusal of a number that cannot be read: "Number kinds .. cut short give 4; other kinds give 1, 2 or 3"
-abbrev pub short_of : Bool → ℕ → Room → Result ℕ DecodeRefusal → Result ℕ DecodeRefusal
-short_of strict i room.Fits later = later
-short_of true i (room.Refused e) later = Err (InvalidDataLength i)
-short_of false i (room.Refused e) later = Err (BitReaderError i e)
+abbrev pub short_of : Bool → ℕ → Result ⊤ BitRefusal → Result ℕ DecodeRefusal → Result ℕ DecodeRefusal
+short_of strict i (Ok u) later = later
+short_of true i (Err e) later = Err (InvalidDataLength i)
+short_of false i (Err e) later = Err (BitReaderError i e)
 
 -- n bits
-abbrev pub room_at : Payload → ℕ → ℕ → Room
+abbrev pub room_at : Payload → ℕ → ℕ → Result ⊤ BitRefusal
 room_at p at n = room_of p.size at n width_max
 
 -- n whole bytes
-abbrev pub bytes_room_lem : Payload → ℕ → ℕ → Room
+abbrev pub bytes_room_lem : Payload → ℕ → ℕ → Result ⊤ BitRefusal
 bytes_room_lem p at n = slice_room_of p.size at n
 
 -- a text of n bytes: "An empty LZ or LAU text needs no alignment"
-abbrev pub text_room_lem : Payload → ℕ → ℕ → Room
-text_room_lem p at n = pick (eqb n 0) room.Fits (bytes_room_lem p at n)
+abbrev pub text_room_lem : Payload → ℕ → ℕ → Result ⊤ BitRefusal
+text_room_lem p at n = pick (eqb n 0) (Ok tt) (bytes_room_lem p at n)
 
 -- a StringFix over so many bytes may stop early
 abbrev pub fixed_max : ℕ
@@ -58,9 +57,9 @@ lau_taken p i at len =
     (if_room_lem (text_room_lem p (at + 16) (len - 2)) i (Ok (16 + 8 * (len - 2))))))
 
 -- "and one more byte if 8 bits remain and it is zero": `next` is that byte, n the bits up to it
-abbrev pub closed_by : Room → ℕ → ℕ → ℕ
-closed_by room.Fits next n = pick (eqb next 0) (n + 8) n
-closed_by (room.Refused e) next n = n
+abbrev pub closed_by : Result ⊤ BitRefusal → ℕ → ℕ → ℕ
+closed_by (Ok u) next n = pick (eqb next 0) (n + 8) n
+closed_by (Err e) next n = n
 
 abbrev pub closed_at_lem : Payload → ℕ → ℕ → ℕ
 closed_at_lem p at n = closed_by (room_at p (at + n) 8) (p.bits (at + n) 8) n

@@ -6,7 +6,7 @@ ghost use Rattle.fields.specs.Taken.{taken_by};
 ghost use Rattle.fields.specs.Content.{read_over, field_read_of};
 
 use crate::{DecodeRefusal, FieldRead, Shape, shapes, texts};
-use bits::{BitPos, Cursor, Moved, ReadU64};
+use bits::{BitPos, Cursor};
 use descriptor::FieldDescriptor;
 
 // A number; 4 where it is strict and cut short.
@@ -23,15 +23,15 @@ fn number(
     let width = f.width;
     let c = Cursor { at: BitPos(at) };
     match c.read_u64(s, width) {
-        ReadU64::Got { value, next: _ } => {
+        Ok(read) => {
             let taken = width as usize;
             Ok(FieldRead::Got {
                 bits: BitPos(taken),
-                raw: Some(value),
-                value: numbers::scale_raw_field(value, f),
+                raw: Some(read.value),
+                value: numbers::scale_raw_field(read.value, f),
             })
         }
-        ReadU64::Refused(e) => {
+        Err(e) => {
             if strict {
                 return Err(DecodeRefusal::InvalidDataLength { field: i });
             }
@@ -53,13 +53,13 @@ fn gap(
     let width = f.width;
     let c = Cursor { at: BitPos(at) };
     match c.advance(s, width) {
-        Moved::To { next: _ } => {
+        Ok(_) => {
             let taken = width as usize;
             Ok(FieldRead::Skipped {
                 bits: BitPos(taken),
             })
         }
-        Moved::Refused(e) => texts::refused(i, e),
+        Err(e) => texts::refused(i, e),
     }
 }
 

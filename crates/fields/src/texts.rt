@@ -7,29 +7,27 @@ ghost use Rattle.fields.specs.Content.{text_at_lem, text_read_lem, refused_of, r
 ghost use Rattle.fields.specs.declared.Shape.TheVariants as shape;
 
 use crate::{DecodeRefusal, FieldRead};
-use bits::{BitPos, ByteCount, Cursor, ReadSlice, ReadU64, Room, least};
+use bits::{BitPos, BitRefusal, ByteCount, Cursor, least};
 use descriptor::{FieldDescriptor, PgnBytes, PgnValue};
 
 // A StringFix over so many bytes may stop early where it is the last field.
 const FIXED_MAX: usize = 32;
 
 // Whether n whole bytes can be read at bit `at`.
-fn bytes_room(s: &[u8], at: usize, n: usize) -> Room
+fn bytes_room(s: &[u8], at: usize, n: usize) -> Result<(), BitRefusal>
     ensures { result ≡ bytes_room_lem (payload_of s.now) at n }
 {
     let c = Cursor { at: BitPos(at) };
-    match c.read_slice(s, ByteCount(n)) {
-        ReadSlice::Got { part: _, next: _ } => Room::Fits,
-        ReadSlice::Refused(e) => Room::Refused(e),
-    }
+    c.read_slice(s, ByteCount(n))?;
+    Ok(())
 }
 
 // Of a text: where it is empty, nothing is asked of its place.
-fn text_room(s: &[u8], at: usize, n: usize) -> Room
+fn text_room(s: &[u8], at: usize, n: usize) -> Result<(), BitRefusal>
     ensures { result ≡ text_room_lem (payload_of s.now) at n }
 {
     if n == 0 {
-        return Room::Fits;
+        return Ok(());
     }
     bytes_room(s, at, n)
 }
@@ -54,7 +52,7 @@ fn text_at(place: usize, n: usize, encoding: Option<u8>) -> PgnValue
 
 // The n bytes at a place, of a field that takes so many bits, if there is room for them.
 fn text_read(
-    room: Room,
+    room: Result<(), BitRefusal>,
     i: usize,
     taken: usize,
     place: usize,
@@ -64,16 +62,16 @@ fn text_read(
     ensures { result ≡ text_read_lem room i taken place n encoding }
 {
     match room {
-        Room::Fits => Ok(FieldRead::Got {
+        Ok(()) => Ok(FieldRead::Got {
             bits: BitPos(taken),
             raw: None,
             value: text_at(place, n, encoding),
         }),
-        Room::Refused(e) => refused(i, e),
+        Err(e) => refused(i, e),
     }
 }
 
-pub(crate) fn refused(i: usize, e: bits::BitRefusal) -> Result<FieldRead, DecodeRefusal>
+pub(crate) fn refused(i: usize, e: BitRefusal) -> Result<FieldRead, DecodeRefusal>
     ensures { result ≡ refused_of i e }
 {
     Err(DecodeRefusal::BitReaderError {
@@ -143,16 +141,16 @@ fn lau_text(
         return Err(DecodeRefusal::InvalidDataLength { field: i });
     }
     if len < 2 {
-        return text_read(Room::Fits, i, 8, 0, 0, None);
+        return text_read(Ok(()), i, 8, 0, 0, None);
     }
     let c = Cursor { at: BitPos(at + 8) };
     match c.read_u8(s, 8) {
-        bits::ReadU8::Got { value, next: _ } => {
+        Ok(read) => {
             let n = len - 2;
             let room = text_room(s, at + 16, n);
-            text_read(room, i, 16 + 8 * n, at / 8 + 2, n, Some(value))
+            text_read(room, i, 16 + 8 * n, at / 8 + 2, n, Some(read.value))
         }
-        bits::ReadU8::Refused(e) => refused(i, e),
+        Err(e) => refused(i, e),
     }
 }
 
@@ -167,8 +165,8 @@ pub(crate) fn lau(
 {
     let c = Cursor { at: BitPos(at) };
     match c.read_u64(s, 8) {
-        ReadU64::Got { value, next: _ } => lau_text(s, f, i, at, value as usize),
-        ReadU64::Refused(e) => refused(i, e),
+        Ok(read) => lau_text(s, f, i, at, read.value as usize),
+        Err(e) => refused(i, e),
     }
 }
 
@@ -179,13 +177,8 @@ fn closed_at(s: &[u8], at: usize, n: usize) -> usize
 {
     let c = Cursor { at: BitPos(at + n) };
     match c.read_u64(s, 8) {
-        ReadU64::Got { value, next: _ } => {
-            if value == 0 {
-                return n + 8;
-            }
-            n
-        }
-        ReadU64::Refused(_) => n,
+        Ok(read) if read.value == 0 => n + 8,
+        _ => n,
     }
 }
 
@@ -219,7 +212,7 @@ pub(crate) fn lz(
 {
     let c = Cursor { at: BitPos(at) };
     match c.read_u64(s, 8) {
-        ReadU64::Got { value, next: _ } => lz_text(s, f, i, at, value as usize),
-        ReadU64::Refused(e) => refused(i, e),
+        Ok(read) => lz_text(s, f, i, at, read.value as usize),
+        Err(e) => refused(i, e),
     }
 }

@@ -4,7 +4,7 @@ ghost use Rattle.offers.specs.Records.{word_at, encoding_in_lem, text_at_lem, re
 
 use crate::Offer;
 use crate::kinds::offer_of;
-use bits::{BitPos, ByteCount, Cursor, ReadU64};
+use bits::{BitPos, ByteCount, Cursor};
 use descriptor::{PgnBytes, PgnValue};
 
 const RECORD_BYTES: usize = 24;
@@ -15,10 +15,7 @@ fn word_at(s: &[u8], q: usize) -> u64
     ensures { result ≡ word_at s.now q }
 {
     let c = Cursor { at: BitPos(0) };
-    match c.read_u64(&s[q..q + 8], 64) {
-        ReadU64::Got { value, next: _ } => value,
-        ReadU64::Refused(_) => 0,
-    }
+    c.read_u64(&s[q..q + 8], 64).unwrap().value
 }
 
 fn encoding_in(mark: u8, byte: u8) -> Option<u8>

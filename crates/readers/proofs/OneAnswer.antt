@@ -5,7 +5,7 @@ use Rattle.one_answer.proofs.Fixes.{Fixes, fixed}
 use Rattle.bits.specs.declared.Cursor.{Cursor}
 use Rattle.readers.specs.declared.BitReader.{BitReader}
 use Rattle.readers.specs.Clauses.{Reads}
-use Rattle.readers.specs.Reader.{at_cursor, after_u64_lem, after_u32_lem, after_u16_lem, after_u8_lem, after_moved_lem, after_slice_lem}
+use Rattle.readers.specs.Reader.{at_cursor, after_read_lem, after_moved_lem}
 use Rattle.readers.proofs.BitReader.new.Reads as new
 use Rattle.readers.proofs.BitReader.seek.Reads as seek
 use Rattle.readers.proofs.BitReader.bit_cursor.Reads as bit-cursor
@@ -28,25 +28,25 @@ one-read-u64 : Fixes read_u64.Post (λ κs x s. x)
 one-read-u64 = fixed (λ κs a x s p. p.0)
 
 same-read-u64 : Fixes read_u64.Post (λ κs x s. s.0.now)
-same-read-u64 = fixed (λ κs a x s p. one_reader after_u64_lem a.0.now _ p)
+same-read-u64 = fixed (λ κs a x s p. one_reader after_read_lem a.0.now _ p)
 
 one-read-u32 : Fixes read_u32.Post (λ κs x s. x)
 one-read-u32 = fixed (λ κs a x s p. p.0)
 
 same-read-u32 : Fixes read_u32.Post (λ κs x s. s.0.now)
-same-read-u32 = fixed (λ κs a x s p. one_reader after_u32_lem a.0.now _ p)
+same-read-u32 = fixed (λ κs a x s p. one_reader after_read_lem a.0.now _ p)
 
 one-read-u16 : Fixes read-u16.Post (λ κs x s. x)
 one-read-u16 = fixed (λ κs a x s p. p.0)
 
 same-read-u16 : Fixes read-u16.Post (λ κs x s. s.0.now)
-same-read-u16 = fixed (λ κs a x s p. one_reader after_u16_lem a.0.now _ p)
+same-read-u16 = fixed (λ κs a x s p. one_reader after_read_lem a.0.now _ p)
 
 one-read-u8 : Fixes read-u8.Post (λ κs x s. x)
 one-read-u8 = fixed (λ κs a x s p. p.0)
 
 same-read-u8 : Fixes read-u8.Post (λ κs x s. s.0.now)
-same-read-u8 = fixed (λ κs a x s p. one_reader after_u8_lem a.0.now _ p)
+same-read-u8 = fixed (λ κs a x s p. one_reader after_read_lem a.0.now _ p)
 
 one-advance : Fixes advance.Post (λ κs x s. x)
 one-advance = fixed (λ κs a x s p. p.0)
@@ -58,7 +58,7 @@ one-read-slice : Fixes read-slice.Post (λ κs x s. x)
 one-read-slice = fixed (λ κs a x s p. p.0)
 
 same-read-slice : Fixes read-slice.Post (λ κs x s. s.0.now)
-same-read-slice = fixed (λ κs a x s p. one_reader after_slice_lem a.0.now _ p)
+same-read-slice = fixed (λ κs a x s p. one_reader after_read_lem a.0.now _ p)
 
 -- The rest.
 

@@ -7,12 +7,10 @@
 
 ghost use Rattle.std.specs.Prelude.{◌≡◌, length};
 ghost use Rattle.bits.specs.Calls.{cursor_at, remaining_of, read_u64_of, read_u32_of, read_u16_of, read_u8_of, advance_of, read_slice_of};
-ghost use Rattle.readers.specs.Reader.{at_cursor, after_u64_lem, after_u32_lem, after_u16_lem, after_u8_lem, after_moved_lem, after_slice_lem};
+ghost use Rattle.readers.specs.Reader.{at_cursor, after_read_lem, after_moved_lem};
 ghost use Rattle.readers.specs.Clauses.{Reads};
 
-use bits::{BitPos, ByteCount, Cursor, Moved, ReadSlice, ReadU8, ReadU16, ReadU32, ReadU64};
-
-mod after;
+use bits::{BitPos, BitRefusal, ByteCount, Cursor, Part, Read};
 
 #[derive(Clone, Copy)]
 pub struct BitReader<'a> {
@@ -48,70 +46,63 @@ impl<'a> BitReader<'a> {
     pub fn seek(&mut self, to: BitPos)
         ensures { self.new ≡ at_cursor self.old (cursor_at to.0) }
     {
-        let c = self.cursor;
-        self.cursor = c.seek(to);
+        self.cursor = self.cursor.seek(to);
     }
 
     // A number of n bits.
-    pub fn read_u64(&mut self, n: u32) -> ReadU64
-        ensures { Reads after_u64_lem result self.new self.old (read_u64_of self.old.src.now self.old.cursor n) }
+    pub fn read_u64(&mut self, n: u32) -> Result<Read<u64>, BitRefusal>
+        ensures { Reads after_read_lem result self.new self.old (read_u64_of self.old.src.now self.old.cursor n) }
     {
-        let c = self.cursor;
-        let a = c.read_u64(self.src, n);
-        self.cursor = after::after_u64(a, c);
-        a
+        let read = self.cursor.read_u64(self.src, n)?;
+        self.cursor = read.next;
+        Ok(read)
     }
 
-    pub fn read_u32(&mut self, n: u32) -> ReadU32
-        ensures { Reads after_u32_lem result self.new self.old (read_u32_of self.old.src.now self.old.cursor n) }
+    pub fn read_u32(&mut self, n: u32) -> Result<Read<u32>, BitRefusal>
+        ensures { Reads after_read_lem result self.new self.old (read_u32_of self.old.src.now self.old.cursor n) }
     {
-        let c = self.cursor;
-        let a = c.read_u32(self.src, n);
-        self.cursor = after::after_u32(a, c);
-        a
+        let read = self.cursor.read_u32(self.src, n)?;
+        self.cursor = read.next;
+        Ok(read)
     }
 
-    pub fn read_u16(&mut self, n: u32) -> ReadU16
-        ensures { Reads after_u16_lem result self.new self.old (read_u16_of self.old.src.now self.old.cursor n) }
+    pub fn read_u16(&mut self, n: u32) -> Result<Read<u16>, BitRefusal>
+        ensures { Reads after_read_lem result self.new self.old (read_u16_of self.old.src.now self.old.cursor n) }
     {
-        let c = self.cursor;
-        let a = c.read_u16(self.src, n);
-        self.cursor = after::after_u16(a, c);
-        a
+        let read = self.cursor.read_u16(self.src, n)?;
+        self.cursor = read.next;
+        Ok(read)
     }
 
-    pub fn read_u8(&mut self, n: u32) -> ReadU8
-        ensures { Reads after_u8_lem result self.new self.old (read_u8_of self.old.src.now self.old.cursor n) }
+    pub fn read_u8(&mut self, n: u32) -> Result<Read<u8>, BitRefusal>
+        ensures { Reads after_read_lem result self.new self.old (read_u8_of self.old.src.now self.old.cursor n) }
     {
-        let c = self.cursor;
-        let a = c.read_u8(self.src, n);
-        self.cursor = after::after_u8(a, c);
-        a
+        let read = self.cursor.read_u8(self.src, n)?;
+        self.cursor = read.next;
+        Ok(read)
     }
 
     // Past n bits, with the limits of a 64-bit read.
-    pub fn advance(&mut self, n: u32) -> Moved
+    pub fn advance(&mut self, n: u32) -> Result<Cursor, BitRefusal>
         ensures { Reads after_moved_lem result self.new self.old (advance_of (length self.old.src.now) self.old.cursor n 64) }
     {
-        let c = self.cursor;
-        let a = c.advance(self.src, n);
-        self.cursor = after::after_moved(a, c);
-        a
+        let next = self.cursor.advance(self.src, n)?;
+        self.cursor = next;
+        Ok(next)
     }
 
     // Where the len bytes from the cursor on stand. The part's `bytes` hands them out, of the reader's `src`.
-    pub fn read_slice(&mut self, len: ByteCount) -> ReadSlice
-        ensures { Reads after_slice_lem result self.new self.old (read_slice_of (length self.old.src.now) self.old.cursor len.0) }
+    pub fn read_slice(&mut self, len: ByteCount) -> Result<Read<Part>, BitRefusal>
+        ensures { Reads after_read_lem result self.new self.old (read_slice_of (length self.old.src.now) self.old.cursor len.0) }
     {
-        let c = self.cursor;
-        let a = c.read_slice(self.src, len);
-        self.cursor = after::after_slice(a, c);
-        a
+        let read = self.cursor.read_slice(self.src, len)?;
+        self.cursor = read.next;
+        Ok(read)
     }
 }
 
 // The first n bits of a buffer. Its contract says nothing of a reader.
-pub fn first_u64(s: &[u8], n: u32) -> ReadU64
+pub fn first_u64(s: &[u8], n: u32) -> Result<Read<u64>, BitRefusal>
     ensures { result ≡ read_u64_of s.now (cursor_at 0) n }
 {
     let mut r = BitReader::new(s);

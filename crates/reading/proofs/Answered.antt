@@ -6,11 +6,10 @@ use mathlib.Core.List.{List, ◌∷◌, ◌++◌}
 use Prim.Native.Nat.{ℕ, ◌*◌, ◌%◌, ◌^◌, ◌≤◌, ◌<◌}
 use native.Mathlib.Omega.{arith}
 use lib.ListN.{length}
-use Rattle.std.specs.Prelude.{Result, Ok, Err, Some}
+use Rattle.bits.specs.declared.BitRefusal.{BitRefusal}
+use Rattle.std.specs.Prelude.{Result, Ok, Err, Some, ⊤}
 use Rattle.bits.specs.Bits.{written}
 use Rattle.bits.specs.declared.BitPos.{BitPos}
-use Rattle.bits.specs.declared.Room.{Room}
-use Rattle.bits.specs.declared.Room.TheVariants as room
 use Rattle.bits.specs.Calls.{cursor_at, width_max, written_in, written_of}
 use Rattle.bits.proofs.Rooms.{Fitting, fitting, room_fits}
 use Rattle.bits.proofs.Laws.{length-written}
@@ -78,11 +77,11 @@ module _ (t : Table) (received : List ℕ) (padded room : ℕ) where
 number_fits : (p : Payload) (i : ℕ) (early : Bool) (w at n : ℕ) (sh : Shape) (strict : Bool) → sh ≡ Number strict → taken_by sh p i early w at ≡ Ok n → Fitting p.size at n width_max
 number_fits p i early w at n sh strict q e = go strict (room_at p at w) refl (ap (λ (x : Shape). taken_by x p i early w at) (sym q) ∙ e)
   where
-    go : (b : Bool) (r : Room) → room_at p at w ≡ r → short_of b i r (Ok w) ≡ Ok n → Fitting p.size at n width_max
-    go true room.Fits h g = let y : w ≡ n = cc in subst (λ (m : ℕ). Fitting p.size at m width_max) y (fitting p.size at w width_max h)
-    go false room.Fits h g = let y : w ≡ n = cc in subst (λ (m : ℕ). Fitting p.size at m width_max) y (fitting p.size at w width_max h)
-    go true (room.Refused x) h g = cc
-    go false (room.Refused x) h g = cc
+    go : (b : Bool) (r : Result ⊤ BitRefusal) → room_at p at w ≡ r → short_of b i r (Ok w) ≡ Ok n → Fitting p.size at n width_max
+    go true (Ok u) h g = let y : w ≡ n = cc in subst (λ (m : ℕ). Fitting p.size at m width_max) y (fitting p.size at w width_max h)
+    go false (Ok u) h g = let y : w ≡ n = cc in subst (λ (m : ℕ). Fitting p.size at m width_max) y (fitting p.size at w width_max h)
+    go true (Err x) h g = cc
+    go false (Err x) h g = cc
 
 -- over what was received, and over it with one number, at v, changed to the bits of x: `for_each_field` answers the same end and count, and
 -- `next_field` hands out the same readings but the one at v, which stands there still and has x's bits as its raw
@@ -118,7 +117,7 @@ two_runs t received padded room us v ws s d free x =
     let a = reads t received padded room vs s d ∙ k.were in
     let b = reads t received' padded room vs s d' ∙ k.are in
     record {
-      call = ap (λ (r : Room). written_in r received (cursor_at v.start.0) v.bits.0 x)
+      call = ap (λ (r : Result ⊤ BitRefusal). written_in r received (cursor_at v.start.0) v.bits.0 x)
           (room_fits (length received) v.start.0 v.bits.0 width_max (record { short = omega arith; some = fits.some; narrow = fits.narrow; inside = omega (arith, free.inside) }));
       answer = answers t received' padded room vs s d' ∙ sym (answers t received padded room vs s d);
       before = readings t p us;

@@ -4,11 +4,9 @@ use mathlib.Core.Bool.{Bool, true, false}
 use Prim.Native.Nat.{ℕ, ◌+◌, ◌-◌, ◌*◌, ◌/◌, ◌≤◌}
 use native.Mathlib.Omega.{arith}
 use lib.Dec.{eqb, ltb}
-use Rattle.std.specs.Prelude.{Result, Ok, Err}
+use Rattle.std.specs.Prelude.{Result, Ok, Err, ⊤}
 use Rattle.bits.specs.Bits.{pick}
 use Rattle.bits.specs.declared.BitRefusal.{BitRefusal}
-use Rattle.bits.specs.declared.Room.{Room}
-use Rattle.bits.specs.declared.Room.TheVariants as room
 use Rattle.bits.proofs.Rooms.{fitting}
 use Rattle.descriptor.specs.declared.FieldDescriptor.{FieldDescriptor}
 use Rattle.fields.specs.declared.DecodeRefusal.{DecodeRefusal}
@@ -27,15 +25,15 @@ pub data Least (m : ℕ) : Result ℕ DecodeRefusal → Type 0 where
   bit-refused : {i : ℕ} {e : BitRefusal} → Least m (Err (BitReaderError i e))
   too_short : {i : ℕ} → Least m (Err (InvalidDataLength i))
 
-if-room : {m : ℕ} (r : Room) (i : ℕ) (later : Result ℕ DecodeRefusal) → (r ≡ room.Fits → Least m later) → Least m (if_room_lem r i later)
-if-room room.Fits i later h = h refl
-if-room (room.Refused e) i later h = bit-refused
+if-room : {m : ℕ} (r : Result ⊤ BitRefusal) (i : ℕ) (later : Result ℕ DecodeRefusal) → (r ≡ Ok tt → Least m later) → Least m (if_room_lem r i later)
+if-room (Ok u) i later h = h refl
+if-room (Err e) i later h = bit-refused
 
-short-of : {m : ℕ} (strict : Bool) (i : ℕ) (r : Room) (later : Result ℕ DecodeRefusal) → (r ≡ room.Fits → Least m later) → Least m (short_of strict i r later)
-short-of true i room.Fits later h = h refl
-short-of false i room.Fits later h = h refl
-short-of true i (room.Refused e) later h = too_short
-short-of false i (room.Refused e) later h = bit-refused
+short-of : {m : ℕ} (strict : Bool) (i : ℕ) (r : Result ⊤ BitRefusal) (later : Result ℕ DecodeRefusal) → (r ≡ Ok tt → Least m later) → Least m (short_of strict i r later)
+short-of true i (Ok u) later h = h refl
+short-of false i (Ok u) later h = h refl
+short-of true i (Err e) later h = too_short
+short-of false i (Err e) later h = bit-refused
 
 either : {m : ℕ} (b : Bool) (x y : Result ℕ DecodeRefusal) → Least m x → Least m y → Least m (pick b x y)
 either true x y h k = h
@@ -51,7 +49,7 @@ least_of Lau p early w at = 8
 least_of Lz p early w at = 8 + 8 * p.bits at 8
 
 module _ (p : Payload) (at i : ℕ) where
-  some : (n : ℕ) → room_at p at n ≡ room.Fits → Least 1 (Ok n)
+  some : (n : ℕ) → room_at p at n ≡ Ok tt → Least 1 (Ok n)
   some n h = least (fitting p.size at n 64 h).some
 
   lau-least : (len : ℕ) → Least 8 (lau_taken p i at len)
@@ -60,13 +58,13 @@ module _ (p : Payload) (at i : ℕ) where
       (either (ltb len 2) _ _ (least (omega arith))
       (if-room (room_at p (at + 8) 8) i _ (λ e. if-room (text_room_lem p (at + 16) (len - 2)) i _ (λ h. least (omega arith)))))
 
-  closed-least : (n : ℕ) (r : Room) (next : ℕ) → n ≤ closed_by r next n
-  closed-least n room.Fits next = go (eqb next 0)
+  closed-least : (n : ℕ) (r : Result ⊤ BitRefusal) (next : ℕ) → n ≤ closed_by r next n
+  closed-least n (Ok u) next = go (eqb next 0)
     where
       go : (b : Bool) → n ≤ pick b (n + 8) n
       go true = omega arith
       go false = omega arith
-  closed-least n (room.Refused e) next = omega arith
+  closed-least n (Err e) next = omega arith
 
   lz-least : (len : ℕ) → Least (8 + 8 * len) (lz_taken p i at len)
   lz-least len =

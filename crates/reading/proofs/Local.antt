@@ -5,10 +5,9 @@ use Prim.Native.Nat.{ℕ, ◌+◌, ◌-◌, ◌*◌, ◌/◌, ◌%◌, ◌≤◌
 use native.Mathlib.Omega.{arith}
 use lib.Dec.{eqb, ltb}
 use borrow.Author.Tests.{eqb-false, ltb-false}
-use Rattle.std.specs.Prelude.{Some, Result, Ok, None}
+use Rattle.bits.specs.declared.BitRefusal.{BitRefusal}
+use Rattle.std.specs.Prelude.{Some, Result, Ok, None, ⊤, Err}
 use Rattle.bits.specs.Bits.{pick}
-use Rattle.bits.specs.declared.Room.{Room}
-use Rattle.bits.specs.declared.Room.TheVariants as room
 use Rattle.bits.proofs.Rooms.{whole}
 use Rattle.descriptor.specs.declared.FieldDescriptor.{FieldDescriptor}
 use Rattle.tables.specs.Table.{Table}
@@ -38,9 +37,9 @@ abbrev pub Agree : (ℕ → ℕ → ℕ) → (ℕ → ℕ → ℕ) → ℕ → �
 Agree b b' lo hi = (at n : ℕ) → lo ≤ at → at + n ≤ hi → b at n ≡ b' at n
 
 -- a field that is taken had room
-fits : (r : Room) (i : ℕ) (later : Result ℕ DecodeRefusal) (n : ℕ) → if_room_lem r i later ≡ Ok n → r ≡ room.Fits
-fits room.Fits i later n h = refl
-fits (room.Refused e) i later n h = cc
+fits : (r : Result ⊤ BitRefusal) (i : ℕ) (later : Result ℕ DecodeRefusal) (n : ℕ) → if_room_lem r i later ≡ Ok n → r ≡ Ok tt
+fits (Ok u) i later n h = refl
+fits (Err e) i later n h = cc
 
 module _ (m : ℕ) (b b' : ℕ → ℕ → ℕ) where
   abbrev p : Payload

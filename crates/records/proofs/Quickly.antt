@@ -8,11 +8,10 @@ use native.Mathlib.Omega.{arith}
 use lib.Dec.{ltb}
 use lib.ListN.{length, length-append}
 use borrow.Author.Tests.{lt-ltb}
+use Rattle.bits.specs.declared.Read.{Read}
 use Rattle.std.specs.Prelude.{Option, Some, Ok}
 use Rattle.bits.specs.Calls.{bits, cursor_at, read_u64_of, advance_of}
 use Rattle.bits.specs.declared.Cursor.{Cursor}
-use Rattle.bits.specs.declared.ReadU64.TheVariants as read64
-use Rattle.bits.specs.declared.Moved.TheVariants as moved
 use Rattle.bits.proofs.Answers.{read_below}
 use Rattle.descriptor.specs.declared.FieldKind.{FieldKind}
 use Rattle.descriptor.specs.declared.FieldKind.TheVariants as kind
@@ -52,20 +51,20 @@ no h = let z : ◌≡◌ {A = ℕ} 0 1 = cc in absurd (omega arith)
 -- ## What is read
 
 module _ (f : FieldDescriptor) (s : List ℕ) (i at : ℕ) (early : Bool) where
-  number_at : (v : ℕ) (d : Cursor) (sh : Shape) → is_number sh ≡ true → read_u64_of s (cursor_at at) f.width ≡ read64.Got v d
-      → read_over (taken_by sh (payload_of s) i early f.width at) sh f (payload_of s) at ≡ Ok (read.Got (bits f.width) (Some v) (scale_of f v))
-  number_at v d (Number strict) h g = sym (number-says f s i at strict (room_at (payload_of s) at f.width)) ∙ ap (number_says f s i at strict) g
-  number_at v d Gap h g = no h
-  number_at v d Fixed h g = no h
-  number_at v d Whole h g = no h
-  number_at v d Lau h g = no h
-  number_at v d Lz h g = no h
+  number_at : (a : Read ℕ) (sh : Shape) → is_number sh ≡ true → read_u64_of s (cursor_at at) f.width ≡ Ok a
+      → read_over (taken_by sh (payload_of s) i early f.width at) sh f (payload_of s) at ≡ Ok (read.Got (bits f.width) (Some a.value) (scale_of f a.value))
+  number_at a (Number strict) h g = sym (number-says f s i at strict (room_at (payload_of s) at f.width)) ∙ ap (number_says f s i at strict) g
+  number_at a Gap h g = no h
+  number_at a Fixed h g = no h
+  number_at a Whole h g = no h
+  number_at a Lau h g = no h
+  number_at a Lz h g = no h
 
-  pub number_read : (v : ℕ) (d : Cursor) → is_number (shape_of f) ≡ true → read_u64_of s (cursor_at at) f.width ≡ read64.Got v d
-      → field_read_of (payload_of s) f i early at ≡ Ok (read.Got (bits f.width) (Some v) (scale_of f v))
-  number_read v d h g = number_at v d (shape_of f) h g
+  pub number_read : (a : Read ℕ) → is_number (shape_of f) ≡ true → read_u64_of s (cursor_at at) f.width ≡ Ok a
+      → field_read_of (payload_of s) f i early at ≡ Ok (read.Got (bits f.width) (Some a.value) (scale_of f a.value))
+  number_read a h g = number_at a (shape_of f) h g
 
-  gap_at : (d : Cursor) (sh : Shape) → is_gap_lem sh ≡ true → advance_of (length s) (cursor_at at) f.width 64 ≡ moved.To d
+  gap_at : (d : Cursor) (sh : Shape) → is_gap_lem sh ≡ true → advance_of (length s) (cursor_at at) f.width 64 ≡ Ok d
       → read_over (taken_by sh (payload_of s) i early f.width at) sh f (payload_of s) at ≡ Ok (read.Skipped (bits f.width))
   gap_at d (Number strict) h g = no h
   gap_at d Gap h g = sym (gap-says f s i at (room_at (payload_of s) at f.width)) ∙ ap (gap_says f s i at) g
@@ -74,7 +73,7 @@ module _ (f : FieldDescriptor) (s : List ℕ) (i at : ℕ) (early : Bool) where
   gap_at d Lau h g = no h
   gap_at d Lz h g = no h
 
-  pub gap-read : (d : Cursor) → is_gap_lem (shape_of f) ≡ true → advance_of (length s) (cursor_at at) f.width 64 ≡ moved.To d
+  pub gap-read : (d : Cursor) → is_gap_lem (shape_of f) ≡ true → advance_of (length s) (cursor_at at) f.width 64 ≡ Ok d
       → field_read_of (payload_of s) f i early at ≡ Ok (read.Skipped (bits f.width))
   gap-read d h g = gap_at d (shape_of f) h g
 
@@ -111,15 +110,18 @@ module _ (t : Table) (s : List ℕ) (room i : ℕ) (e : Element) (at made : ℕ)
   unfolding readings
   kept-none h = h (reading_of t p v) []
 
-  module _ (r : ℕ) (d : Cursor) (h : is_number (shape_of f) ≡ true) (g : read_u64_of s (cursor_at at) f.width ≡ read64.Got r d) where
+  module _ (a : Read ℕ) (h : is_number (shape_of f) ≡ true) (g : read_u64_of s (cursor_at at) f.width ≡ Ok a) where
+    abbrev r : ℕ
+    r = a.value
+
     got : (early : Bool) → field_read_of p f i early at ≡ Ok (read.Got (bits f.width) (Some r) (scale_of f r))
-    got early = number_read f s i at early r d h g
+    got early = number_read f s i at early a h g
 
     reading-is : reading_of t p v ≡ number_reading i e at f r
     reading-is =
         let o = told f p at (bits f.width) i false (Some r) (scale_of f r) (got false) in
         ap₂ (λ (q : Option ℕ) (x : PgnValue). record { field = i; element = e; start = bits at; bits = bits f.width; raw = q; value = x; availability = availability_of p f q x }) (sym o.raw) (sym o.value)
-        ∙ ap (λ a. record { field = i; element = e; start = bits at; bits = bits f.width; raw = Some r; value = scale_of f r; availability = a }) (says-by p f r (scale_of f r) (shape_of f) h)
+        ∙ ap (λ w. record { field = i; element = e; start = bits at; bits = bits f.width; raw = Some r; value = scale_of f r; availability = w }) (says-by p f r (scale_of f r) (shape_of f) h)
 
     pub number-field : (out' : List ℕ) → made < room → out' ≡ puts out (place_at_lem made) (laid (record_of_lem (number_reading i e at f r)))
         → Field t p room i e at made out f.width 1 (noted_by_lem t e i (Some r)) out'
@@ -134,7 +136,7 @@ module _ (t : Table) (s : List ℕ) (room i : ℕ) (e : Element) (at made : ℕ)
           near = omega (arith, near.0, near.1);
         }
 
-  pub gap-field : (d : Cursor) → is_gap_lem (shape_of f) ≡ true → advance_of (length s) (cursor_at at) f.width 64 ≡ moved.To d → Field t p room i e at made out f.width 0 (λ cs. cs) out
+  pub gap-field : (d : Cursor) → is_gap_lem (shape_of f) ≡ true → advance_of (length s) (cursor_at at) f.width 64 ≡ Ok d → Field t p room i e at made out f.width 0 (λ cs. cs) out
   unfolding records puts
   gap-field d h g =
       let o = gone f p at (bits f.width) i false (gap-read f s i at false d h g) in
@@ -195,26 +197,26 @@ module _ (t : Table) (p : Payload) (room : ℕ) (e : Element) (from end : ℕ) (
 -- ## Of a field that is known by its descriptor
 
 module _ (t : Table) (s : List ℕ) (room i : ℕ) (e : Element) (at made : ℕ) (out : List ℕ) where
-  pub number_of : (f : FieldDescriptor) → f ≡ t.field i → (r : ℕ) (d : Cursor) → is_number (shape_of f) ≡ true → read_u64_of s (cursor_at at) f.width ≡ read64.Got r d
-      → (out' : List ℕ) → made < room → out' ≡ puts out (place_at_lem made) (laid (record_of_lem (number_reading i e at f r)))
-      → Field t (payload_of s) room i e at made out f.width 1 (noted_by_lem t e i (Some r)) out'
-  number_of f h r d =
-      subst (λ (x : FieldDescriptor). is_number (shape_of x) ≡ true → read_u64_of s (cursor_at at) x.width ≡ read64.Got r d
-      → (out' : List ℕ) → made < room → out' ≡ puts out (place_at_lem made) (laid (record_of_lem (number_reading i e at x r)))
-      → Field t (payload_of s) room i e at made out x.width 1 (noted_by_lem t e i (Some r)) out')
-      (sym h) (number-field t s room i e at made out r d)
+  pub number_of : (f : FieldDescriptor) → f ≡ t.field i → (a : Read ℕ) → is_number (shape_of f) ≡ true → read_u64_of s (cursor_at at) f.width ≡ Ok a
+      → (out' : List ℕ) → made < room → out' ≡ puts out (place_at_lem made) (laid (record_of_lem (number_reading i e at f a.value)))
+      → Field t (payload_of s) room i e at made out f.width 1 (noted_by_lem t e i (Some a.value)) out'
+  number_of f h a =
+      subst (λ (x : FieldDescriptor). is_number (shape_of x) ≡ true → read_u64_of s (cursor_at at) x.width ≡ Ok a
+      → (out' : List ℕ) → made < room → out' ≡ puts out (place_at_lem made) (laid (record_of_lem (number_reading i e at x a.value)))
+      → Field t (payload_of s) room i e at made out x.width 1 (noted_by_lem t e i (Some a.value)) out')
+      (sym h) (number-field t s room i e at made out a)
 
   -- .. by its width alone
-  pub simple-of : (n : ℕ) → Simple (t.field i) n → (r : ℕ) (d : Cursor) → read_u64_of s (cursor_at at) n ≡ read64.Got r d
-      → (out' : List ℕ) → made < room → out' ≡ puts out (place_at_lem made) (laid (number_record i e at n r (simple_words_of n r)))
-      → Field t (payload_of s) room i e at made out n 1 (noted_by_lem t e i (Some r)) out'
-  simple-of n k r d g =
-      subst (λ (m : ℕ). read_u64_of s (cursor_at at) m ≡ read64.Got r d → (out' : List ℕ) → made < room
-      → out' ≡ puts out (place_at_lem made) (laid (number_record i e at m r (simple_words_of m r)))
-      → Field t (payload_of s) room i e at made out m 1 (noted_by_lem t e i (Some r)) out')
+  pub simple-of : (n : ℕ) → Simple (t.field i) n → (a : Read ℕ) → read_u64_of s (cursor_at at) n ≡ Ok a
+      → (out' : List ℕ) → made < room → out' ≡ puts out (place_at_lem made) (laid (number_record i e at n a.value (simple_words_of n a.value)))
+      → Field t (payload_of s) room i e at made out n 1 (noted_by_lem t e i (Some a.value)) out'
+  simple-of n k a g =
+      subst (λ (m : ℕ). read_u64_of s (cursor_at at) m ≡ Ok a → (out' : List ℕ) → made < room
+      → out' ≡ puts out (place_at_lem made) (laid (number_record i e at m a.value (simple_words_of m a.value)))
+      → Field t (payload_of s) room i e at made out m 1 (noted_by_lem t e i (Some a.value)) out')
       k.width
-      (λ (h : read_u64_of s (cursor_at at) f.width ≡ read64.Got r d) (out' : List ℕ) (l : made < room) (q : out' ≡ puts out (place_at_lem made) (laid (number_record i e at f.width r (simple_words_of f.width r)))).
-      number-field t s room i e at made out r d (number-kind k.kind) h out' l (q ∙ ap (λ (ws : List ℕ). puts out (place_at_lem made) (laid ws)) (number-record i e at f r _ (simple-words f f.width r k.kind k.unscaled k.unsigned refl (omega (arith, k.small, k.width)) (read_below s (cursor_at at) f.width 64 r d h)))))
+      (λ (h : read_u64_of s (cursor_at at) f.width ≡ Ok a) (out' : List ℕ) (l : made < room) (q : out' ≡ puts out (place_at_lem made) (laid (number_record i e at f.width a.value (simple_words_of f.width a.value)))).
+      number-field t s room i e at made out a (number-kind k.kind) h out' l (q ∙ ap (λ (ws : List ℕ). puts out (place_at_lem made) (laid ws)) (number-record i e at f a.value _ (simple-words f f.width a.value k.kind k.unscaled k.unsigned refl (omega (arith, k.small, k.width)) (read_below s (cursor_at at) f.width 64 a h)))))
       g
     where
       f : FieldDescriptor
@@ -224,8 +226,8 @@ module _ (t : Table) (s : List ℕ) (room i : ℕ) (e : Element) (at made : ℕ)
       number-kind (inl x) = ap (λ (y : FieldKind). is_number (shape_by y f.width)) x
       number-kind (inr x) = ap (λ (y : FieldKind). is_number (shape_by y f.width)) x
 
-  pub gap_of : (f : FieldDescriptor) → f ≡ t.field i → (d : Cursor) → is_gap_lem (shape_of f) ≡ true → advance_of (length s) (cursor_at at) f.width 64 ≡ moved.To d
+  pub gap_of : (f : FieldDescriptor) → f ≡ t.field i → (d : Cursor) → is_gap_lem (shape_of f) ≡ true → advance_of (length s) (cursor_at at) f.width 64 ≡ Ok d
       → Field t (payload_of s) room i e at made out f.width 0 (λ cs. cs) out
   gap_of f h d =
-      subst (λ (x : FieldDescriptor). is_gap_lem (shape_of x) ≡ true → advance_of (length s) (cursor_at at) x.width 64 ≡ moved.To d → Field t (payload_of s) room i e at made out x.width 0 (λ cs. cs) out)
+      subst (λ (x : FieldDescriptor). is_gap_lem (shape_of x) ≡ true → advance_of (length s) (cursor_at at) x.width 64 ≡ Ok d → Field t (payload_of s) room i e at made out x.width 0 (λ cs. cs) out)
       (sym h) (gap-field t s room i e at made out d)

@@ -7,7 +7,7 @@ ghost use Rattle.fields.specs.Shapes.{shape_of, is_number, is_gap_lem};
 ghost use Rattle.records.specs.Stretches.{Roomy, QuickSays, Quiet, Runs, stretch_at};
 
 use crate::{Quick, Stretch, readings};
-use bits::{BitPos, Cursor, Moved, ReadU64};
+use bits::{BitPos, Cursor};
 use descriptor::FieldDescriptor;
 
 // Field i, a number at bit `at`.
@@ -29,14 +29,14 @@ fn number(
     if made < room {
         let c = Cursor { at: BitPos(at) };
         return match c.read_u64(s, width) {
-            ReadU64::Got { value, next: _ } => {
-                readings::put_number(out, 8 + 64 * made, i, e, at, f, value);
+            Ok(read) => {
+                readings::put_number(out, 8 + 64 * made, i, e, at, f, read.value);
                 Some(Quick::Took {
                     bits: width as usize,
-                    raw: value,
+                    raw: read.value,
                 })
             }
-            ReadU64::Refused(_) => None,
+            Err(_) => None,
         };
     }
     None
@@ -60,15 +60,15 @@ fn simple(
     if made < room {
         let c = Cursor { at: BitPos(at) };
         return match c.read_u64(s, width) {
-            ReadU64::Got { value, next: _ } => {
-                let n = numbers::simple_words(width, value);
-                readings::put_words(out, 8 + 64 * made, i, e, at, width, value, n);
+            Ok(read) => {
+                let n = numbers::simple_words(width, read.value);
+                readings::put_words(out, 8 + 64 * made, i, e, at, width, read.value, n);
                 Some(Quick::Took {
                     bits: width as usize,
-                    raw: value,
+                    raw: read.value,
                 })
             }
-            ReadU64::Refused(_) => None,
+            Err(_) => None,
         };
     }
     None
@@ -92,10 +92,10 @@ fn gap(
     let width = f.width;
     let c = Cursor { at: BitPos(at) };
     match c.advance(s, width) {
-        Moved::To { next: _ } => Some(Quick::Skipped {
+        Ok(_) => Some(Quick::Skipped {
             bits: width as usize,
         }),
-        Moved::Refused(_) => None,
+        Err(_) => None,
     }
 }
 

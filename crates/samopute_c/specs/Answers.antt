@@ -1,22 +1,12 @@
 -- How the answers of the bit calls cross the boundary: a status, 0 or document 01's number of the refusal, and three
 -- cells: the cursor after the call and two numbers.
-use Rattle.std.specs.Prelude.{◌≡◌, ℕ, List, [], ◌∷◌, get_or}
+use Rattle.std.specs.Prelude.{◌≡◌, ℕ, List, [], ◌∷◌, get_or, Result, Ok, Err}
 use Rattle.bits.specs.Refusals.{number_of, carried_of}
 use Rattle.bits.specs.Calls.{place}
 use Rattle.bits.specs.declared.BitRefusal.{BitRefusal}
 use Rattle.bits.specs.declared.Cursor.{Cursor}
-use Rattle.bits.specs.declared.ReadU64.{ReadU64}
-use Rattle.bits.specs.declared.ReadU64.TheVariants as read64
-use Rattle.bits.specs.declared.ReadU32.{ReadU32}
-use Rattle.bits.specs.declared.ReadU32.TheVariants as read32
-use Rattle.bits.specs.declared.ReadU16.{ReadU16}
-use Rattle.bits.specs.declared.ReadU16.TheVariants as read16
-use Rattle.bits.specs.declared.ReadU8.{ReadU8}
-use Rattle.bits.specs.declared.ReadU8.TheVariants as read8
-use Rattle.bits.specs.declared.ReadSlice.{ReadSlice}
-use Rattle.bits.specs.declared.ReadSlice.TheVariants as slice
-use Rattle.bits.specs.declared.Moved.{Moved}
-use Rattle.bits.specs.declared.Moved.TheVariants as moved
+use Rattle.bits.specs.declared.Part.{Part}
+use Rattle.bits.specs.declared.Read.{Read}
 
 -- an answer: the moved cursor and two numbers, or a refusal
 pub data Told : Type 0 where
@@ -39,28 +29,16 @@ abbrev pub Laid : ℕ → List ℕ → ℕ → Told → Type 0
 Laid r answer at told = (r ≡ status told) × (answer ≡ cells at told)
 
 -- a number that was read, and 0
-abbrev pub of_u64 : ReadU64 → Told
-of_u64 (read64.Got v next) = done next v 0
-of_u64 (read64.Refused e) = refused e
-
-abbrev pub of_u32 : ReadU32 → Told
-of_u32 (read32.Got v next) = done next v 0
-of_u32 (read32.Refused e) = refused e
-
-abbrev pub of_u16 : ReadU16 → Told
-of_u16 (read16.Got v next) = done next v 0
-of_u16 (read16.Refused e) = refused e
-
-abbrev pub of_u8 : ReadU8 → Told
-of_u8 (read8.Got v next) = done next v 0
-of_u8 (read8.Refused e) = refused e
+abbrev pub of_read : Result (Read ℕ) BitRefusal → Told
+of_read (Ok a) = done a.next a.value 0
+of_read (Err e) = refused e
 
 -- a part: its start and its length in bytes
-abbrev pub of_slice : ReadSlice → Told
-of_slice (slice.Got part next) = done next part.start.0 part.len.0
-of_slice (slice.Refused e) = refused e
+abbrev pub of_slice : Result (Read Part) BitRefusal → Told
+of_slice (Ok a) = done a.next a.value.start.0 a.value.len.0
+of_slice (Err e) = refused e
 
 -- no number
-abbrev pub of_moved : Moved → Told
-of_moved (moved.To next) = done next 0 0
-of_moved (moved.Refused e) = refused e
+abbrev pub of_moved : Result Cursor BitRefusal → Told
+of_moved (Ok next) = done next 0 0
+of_moved (Err e) = refused e

@@ -14,7 +14,7 @@ ghost use Rattle.std.specs.Prelude.{◌≡◌, length};
 ghost use Rattle.bits.specs.Calls.{cursor_at, remaining_of};
 ghost use Rattle.samopute_c.specs.Answers.{Laid, done, refused, of_moved};
 
-use bits::{BitPos, BitRefusal, Cursor, Moved};
+use bits::{BitPos, BitRefusal, Cursor};
 
 mod checking;
 mod decoding;
@@ -56,12 +56,12 @@ fn tell_refused(answer: &mut [u64; 3], at: usize, e: BitRefusal) -> u32
 }
 
 // Lays out where a call that reads no number leaves the cursor.
-fn tell_moved(answer: &mut [u64; 3], at: usize, m: Moved) -> u32
+fn tell_moved(answer: &mut [u64; 3], at: usize, m: Result<Cursor, BitRefusal>) -> u32
     ensures { Laid result answer.new at (of_moved m) }
 {
     match m {
-        Moved::To { next } => tell(answer, at, next, 0, 0),
-        Moved::Refused(e) => tell_refused(answer, at, e),
+        Ok(next) => tell(answer, at, next, 0, 0),
+        Err(e) => tell_refused(answer, at, e),
     }
 }
 

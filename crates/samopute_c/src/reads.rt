@@ -1,48 +1,48 @@
 // The calls that read.
 ghost use Rattle.std.specs.Prelude.{◌≡◌, length};
 ghost use Rattle.bits.specs.Calls.{cursor_at, read_u64_of, read_u32_of, read_u16_of, read_u8_of, advance_of, read_slice_of};
-ghost use Rattle.samopute_c.specs.Answers.{Laid, of_u64, of_u32, of_u16, of_u8, of_slice, of_moved};
+ghost use Rattle.samopute_c.specs.Answers.{Laid, of_read, of_slice, of_moved};
 
 use crate::{tell, tell_moved, tell_refused};
-use bits::{BitPos, ByteCount, Cursor, ReadSlice, ReadU8, ReadU16, ReadU32, ReadU64};
+use bits::{BitPos, ByteCount, Cursor};
 
 pub fn samopute_read_u64(buffer: &[u8], cursor: usize, width: u32, answer: &mut [u64; 3]) -> u32
-    ensures { Laid result answer.new cursor (of_u64 (read_u64_of buffer.now (cursor_at cursor) width)) }
+    ensures { Laid result answer.new cursor (of_read (read_u64_of buffer.now (cursor_at cursor) width)) }
 {
     let from = Cursor { at: BitPos(cursor) };
     match from.read_u64(buffer, width) {
-        ReadU64::Got { value, next } => tell(answer, cursor, next, value, 0),
-        ReadU64::Refused(e) => tell_refused(answer, cursor, e),
+        Ok(read) => tell(answer, cursor, read.next, read.value, 0),
+        Err(e) => tell_refused(answer, cursor, e),
     }
 }
 
 pub fn samopute_read_u32(buffer: &[u8], cursor: usize, width: u32, answer: &mut [u64; 3]) -> u32
-    ensures { Laid result answer.new cursor (of_u32 (read_u32_of buffer.now (cursor_at cursor) width)) }
+    ensures { Laid result answer.new cursor (of_read (read_u32_of buffer.now (cursor_at cursor) width)) }
 {
     let from = Cursor { at: BitPos(cursor) };
     match from.read_u32(buffer, width) {
-        ReadU32::Got { value, next } => tell(answer, cursor, next, value as u64, 0),
-        ReadU32::Refused(e) => tell_refused(answer, cursor, e),
+        Ok(read) => tell(answer, cursor, read.next, u64::from(read.value), 0),
+        Err(e) => tell_refused(answer, cursor, e),
     }
 }
 
 pub fn samopute_read_u16(buffer: &[u8], cursor: usize, width: u32, answer: &mut [u64; 3]) -> u32
-    ensures { Laid result answer.new cursor (of_u16 (read_u16_of buffer.now (cursor_at cursor) width)) }
+    ensures { Laid result answer.new cursor (of_read (read_u16_of buffer.now (cursor_at cursor) width)) }
 {
     let from = Cursor { at: BitPos(cursor) };
     match from.read_u16(buffer, width) {
-        ReadU16::Got { value, next } => tell(answer, cursor, next, value as u64, 0),
-        ReadU16::Refused(e) => tell_refused(answer, cursor, e),
+        Ok(read) => tell(answer, cursor, read.next, u64::from(read.value), 0),
+        Err(e) => tell_refused(answer, cursor, e),
     }
 }
 
 pub fn samopute_read_u8(buffer: &[u8], cursor: usize, width: u32, answer: &mut [u64; 3]) -> u32
-    ensures { Laid result answer.new cursor (of_u8 (read_u8_of buffer.now (cursor_at cursor) width)) }
+    ensures { Laid result answer.new cursor (of_read (read_u8_of buffer.now (cursor_at cursor) width)) }
 {
     let from = Cursor { at: BitPos(cursor) };
     match from.read_u8(buffer, width) {
-        ReadU8::Got { value, next } => tell(answer, cursor, next, value as u64, 0),
-        ReadU8::Refused(e) => tell_refused(answer, cursor, e),
+        Ok(read) => tell(answer, cursor, read.next, u64::from(read.value), 0),
+        Err(e) => tell_refused(answer, cursor, e),
     }
 }
 
@@ -59,11 +59,11 @@ pub fn samopute_read_slice(buffer: &[u8], cursor: usize, count: usize, answer: &
 {
     let from = Cursor { at: BitPos(cursor) };
     match from.read_slice(buffer, ByteCount(count)) {
-        ReadSlice::Got { part, next } => {
-            let start = part.start.0;
-            let len = part.len.0;
-            tell(answer, cursor, next, start as u64, len as u64)
+        Ok(read) => {
+            let start = read.value.start.0;
+            let len = read.value.len.0;
+            tell(answer, cursor, read.next, start as u64, len as u64)
         }
-        ReadSlice::Refused(e) => tell_refused(answer, cursor, e),
+        Err(e) => tell_refused(answer, cursor, e),
     }
 }

@@ -9,7 +9,7 @@ ghost use Rattle.bits.specs.Calls.{cursor_at, remaining_of, read_u64_of, read_u3
 ghost use Rattle.offers.specs.Records.{offer_of_lem};
 ghost use Rattle.tables.specs.Table.{table_of};
 ghost use Rattle.tables.specs.Check.{check_of};
-ghost use Rattle.samopute_c.specs.Answers.{Laid, of_u64, of_u32, of_u16, of_u8, of_slice, of_moved};
+ghost use Rattle.samopute_c.specs.Answers.{Laid, of_read, of_slice, of_moved};
 ghost use Rattle.samopute_c.specs.Checks.{check_status, check_cells};
 ghost use Rattle.samopute_c.specs.Clauses.{Writes, WritesSlice, GivesRaw, Decodes, DecodesPgn, Encodes, EncodesPgn};
 ghost use Rattle.samopute_c.specs.Decodes.{version_of};
@@ -29,7 +29,7 @@ pub extern "C" fn samopute_read_u64(
     width: u32,
     answer: &mut [u64; 3],
 ) -> u32
-    ensures { Laid result answer.new cursor (of_u64 (read_u64_of buffer.now (cursor_at cursor) width)) }
+    ensures { Laid result answer.new cursor (of_read (read_u64_of buffer.now (cursor_at cursor) width)) }
 {
     samopute_c::samopute_read_u64(buffer, cursor, width, answer)
 }
@@ -41,7 +41,7 @@ pub extern "C" fn samopute_read_u32(
     width: u32,
     answer: &mut [u64; 3],
 ) -> u32
-    ensures { Laid result answer.new cursor (of_u32 (read_u32_of buffer.now (cursor_at cursor) width)) }
+    ensures { Laid result answer.new cursor (of_read (read_u32_of buffer.now (cursor_at cursor) width)) }
 {
     samopute_c::samopute_read_u32(buffer, cursor, width, answer)
 }
@@ -53,7 +53,7 @@ pub extern "C" fn samopute_read_u16(
     width: u32,
     answer: &mut [u64; 3],
 ) -> u32
-    ensures { Laid result answer.new cursor (of_u16 (read_u16_of buffer.now (cursor_at cursor) width)) }
+    ensures { Laid result answer.new cursor (of_read (read_u16_of buffer.now (cursor_at cursor) width)) }
 {
     samopute_c::samopute_read_u16(buffer, cursor, width, answer)
 }
@@ -65,7 +65,7 @@ pub extern "C" fn samopute_read_u8(
     width: u32,
     answer: &mut [u64; 3],
 ) -> u32
-    ensures { Laid result answer.new cursor (of_u8 (read_u8_of buffer.now (cursor_at cursor) width)) }
+    ensures { Laid result answer.new cursor (of_read (read_u8_of buffer.now (cursor_at cursor) width)) }
 {
     samopute_c::samopute_read_u8(buffer, cursor, width, answer)
 }

@@ -1,6 +1,7 @@
 -- "No refusal is given otherwise", of one value in a field of an accepted table, in a buffer of 223 bytes at most: 2, 3, 10, 11 or 13, never 1 or 6.
 -- Assumes nothing.
-use Rattle.std.specs.Prelude.{Result, Ok, Err, Option, Some, None}
+use Rattle.bits.specs.declared.BitRefusal.{BitRefusal}
+use Rattle.std.specs.Prelude.{Result, Ok, Err, Option, Some, None, ⊤}
 use mathlib.Core.Path.{◌≡◌, refl, sym, ap, ◌∙◌}
 use mathlib.Core.Bool.{Bool, true, false, not}
 use Prim.Native.Nat.{ℕ, ◌+◌, ◌*◌, ◌/◌, ◌%◌, ◌≤◌, ◌<◌}
@@ -8,7 +9,6 @@ use lib.Dec.{eqb, ltb}
 use Rattle.weighing.specs.declared.EncodeRefusal.{EncodeRefusal}
 use Rattle.bits.specs.Bits.{pick}
 use Rattle.bits.specs.Calls.{bits, room_of, width_max}
-use Rattle.bits.specs.declared.Room.{Room}
 use Rattle.descriptor.specs.declared.FieldDescriptor.{FieldDescriptor}
 use Rattle.descriptor.specs.declared.PgnBytes.{PgnBytes}
 use Rattle.descriptor.specs.declared.PgnValue.{PgnValue}
@@ -38,7 +38,7 @@ abbrev pub Given : Result Weighed EncodeRefusal → Type 0
 Given (Ok w) = Unit {0}
 Given (Err f) = given_by_encode (number_of f) ≡ true
 
-at_field : {r : Room} (i : ℕ) (w : Result Weighed EncodeRefusal) → Fair r → Given w → Given (at_field_lem r i w)
+at_field : {r : Result ⊤ BitRefusal} (i : ℕ) (w : Result Weighed EncodeRefusal) → Fair r → Given w → Given (at_field_lem r i w)
 at_field i w fits h = h
 at_field i w beyond-bits h = refl
 at_field i w beyond-bytes h = refl

@@ -1,12 +1,11 @@
 -- What comes of a value in a field before a bit is written: document 01, "Writing a payload", and "At an encoded field: 12,
 -- 11, 10 or 13, 3, 2", of which 12 is asked before.
-use Rattle.std.specs.Prelude.{ℕ, ◌+◌, ◌-◌, ◌*◌, ◌/◌, ◌%◌, Bool, true, false, not, ◌||◌, eqb, ltb, Result, Ok, Err, Option, Some, None}
+use Rattle.bits.specs.declared.BitRefusal.{BitRefusal}
+use Rattle.std.specs.Prelude.{ℕ, ◌+◌, ◌-◌, ◌*◌, ◌/◌, ◌%◌, Bool, true, false, not, ◌||◌, eqb, ltb, Result, Ok, Err, Option, Some, None, ⊤}
 use Rattle.weighing.specs.declared.EncodeRefusal.{EncodeRefusal}
 use Rattle.bits.specs.Bits.{pick}
 use Rattle.bits.specs.Calls.{bits, bytes, saturated, room_of, width_max}
 use Rattle.bits.specs.declared.BitRefusal.TheVariants.{TooLongForType, NonAlignedBit, OutOfBits}
-use Rattle.bits.specs.declared.Room.{Room}
-use Rattle.bits.specs.declared.Room.TheVariants as room
 use Rattle.descriptor.specs.declared.FieldDescriptor.{FieldDescriptor}
 use Rattle.descriptor.specs.declared.PgnBytes.{PgnBytes}
 use Rattle.descriptor.specs.declared.PgnValue.{PgnValue}
@@ -31,9 +30,9 @@ text_max = 221
 -- ## 3 and 2
 
 -- the refusal of a bit call, at field i
-abbrev pub at_field_lem : Room → ℕ → Result Weighed EncodeRefusal → Result Weighed EncodeRefusal
-at_field_lem room.Fits i w = w
-at_field_lem (room.Refused e) i w = Err (BitWriteError i e)
+abbrev pub at_field_lem : Result ⊤ BitRefusal → ℕ → Result Weighed EncodeRefusal → Result Weighed EncodeRefusal
+at_field_lem (Ok u) i w = w
+at_field_lem (Err e) i w = Err (BitWriteError i e)
 
 -- "Refusal 2 counts bits for the whole field": n bits from `at` on, in a buffer of so many bytes
 abbrev pub if_room_lem : ℕ → ℕ → ℕ → ℕ → Result Weighed EncodeRefusal → Result Weighed EncodeRefusal

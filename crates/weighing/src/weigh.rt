@@ -5,7 +5,7 @@ ghost use Rattle.weighing.specs.Weigh.{at_field_lem, number_by, gap_of, weighed_
 
 use crate::texts::Site;
 use crate::{EncodeRefusal, Weighed};
-use bits::{BitPos, BitRefusal, ByteCount, Room};
+use bits::{BitPos, BitRefusal, ByteCount};
 use descriptor::{FieldDescriptor, PgnValue};
 use fields::Shape;
 use numbers::NumberRefusal;
@@ -39,12 +39,16 @@ fn number(
 }
 
 // What a bit call would refuse, at field i; else what was weighed.
-fn at_field(room: Room, i: usize, weighed: Weighed) -> Result<Weighed, EncodeRefusal>
+fn at_field(
+    room: Result<(), BitRefusal>,
+    i: usize,
+    weighed: Weighed,
+) -> Result<Weighed, EncodeRefusal>
     ensures { result ≡ at_field_lem room i (Ok weighed) }
 {
     match room {
-        Room::Fits => Ok(weighed),
-        Room::Refused(refusal) => Err(EncodeRefusal::BitWriteError { field: i, refusal }),
+        Ok(()) => Ok(weighed),
+        Err(refusal) => Err(EncodeRefusal::BitWriteError { field: i, refusal }),
     }
 }
 

@@ -2,7 +2,9 @@
 -- contract of each public call as the source states it, `Post`. Assumes nothing.
 use Rattle.std.proofs.Common.{◌≡◌, ◌∙◌, ℕ, List, ap}
 use Rattle.one_answer.proofs.Fixes.{Fixes, fixed}
-use Rattle.bits.specs.declared.Moved.{Moved}
+use Rattle.std.specs.Prelude.{Result}
+use Rattle.bits.specs.declared.BitRefusal.{BitRefusal}
+use Rattle.bits.specs.declared.Cursor.{Cursor}
 use Rattle.bits.specs.Calls.{written_of, sliced_of}
 use Rattle.writers.specs.Writer.{wrote, after_moved_lem}
 use Rattle.writers.specs.declared.BitWriter.{BitWriter}
@@ -17,8 +19,8 @@ use Rattle.writers.proofs.BitWriter.write_slice.Reads as write-slice
 use Rattle.writers.proofs.first_bits.Reads as first-bits
 
 -- The calls that move a writer: once the answer r is known, so is the writer, which has the bytes s.
-writers : {r r' : Moved} (w : BitWriter) (s : List ℕ) → r ≡ r' → wrote w s (after_moved_lem r w.cursor) ≡ wrote w s (after_moved_lem r' w.cursor)
-writers w s e = ap (λ (r : Moved). wrote w s (after_moved_lem r w.cursor)) e
+writers : {r r' : Result Cursor BitRefusal} (w : BitWriter) (s : List ℕ) → r ≡ r' → wrote w s (after_moved_lem r w.cursor) ≡ wrote w s (after_moved_lem r' w.cursor)
+writers w s e = ap (λ (r : Result Cursor BitRefusal). wrote w s (after_moved_lem r w.cursor)) e
 
 one-write-u64 : Fixes write-u64.Post (λ κs x s. x)
 one-write-u64 = fixed (λ κs a x s p. p.0)

@@ -9,9 +9,7 @@ ghost use Rattle.std.specs.Prelude.{◌≡◌};
 ghost use Rattle.bits.specs.Calls.{cursor_at};
 ghost use Rattle.writers.specs.Clauses.{Writes, Advances, WritesSlice, FirstBits};
 
-use bits::{BitPos, Cursor, Moved};
-
-mod after;
+use bits::{BitPos, BitRefusal, Cursor};
 
 #[derive(Drop)]
 pub struct BitWriter<'a> {
@@ -38,65 +36,59 @@ impl<'a> BitWriter<'a> {
     }
 
     // The n low bits of a number.
-    pub fn write_u64(&mut self, value: u64, n: u32) -> Moved
+    pub fn write_u64(&mut self, value: u64, n: u32) -> Result<Cursor, BitRefusal>
         ensures { Writes result self.new self.old 64 value n }
     {
-        let c = self.cursor;
-        let a = c.write_u64(&mut *self.dest, value, n);
-        self.cursor = after::after_moved(a, c);
-        a
+        let next = self.cursor.write_u64(&mut *self.dest, value, n)?;
+        self.cursor = next;
+        Ok(next)
     }
 
-    pub fn write_u32(&mut self, value: u32, n: u32) -> Moved
+    pub fn write_u32(&mut self, value: u32, n: u32) -> Result<Cursor, BitRefusal>
         ensures { Writes result self.new self.old 32 value n }
     {
-        let c = self.cursor;
-        let a = c.write_u32(&mut *self.dest, value, n);
-        self.cursor = after::after_moved(a, c);
-        a
+        let next = self.cursor.write_u32(&mut *self.dest, value, n)?;
+        self.cursor = next;
+        Ok(next)
     }
 
-    pub fn write_u16(&mut self, value: u16, n: u32) -> Moved
+    pub fn write_u16(&mut self, value: u16, n: u32) -> Result<Cursor, BitRefusal>
         ensures { Writes result self.new self.old 16 value n }
     {
-        let c = self.cursor;
-        let a = c.write_u16(&mut *self.dest, value, n);
-        self.cursor = after::after_moved(a, c);
-        a
+        let next = self.cursor.write_u16(&mut *self.dest, value, n)?;
+        self.cursor = next;
+        Ok(next)
     }
 
-    pub fn write_u8(&mut self, value: u8, n: u32) -> Moved
+    pub fn write_u8(&mut self, value: u8, n: u32) -> Result<Cursor, BitRefusal>
         ensures { Writes result self.new self.old 8 value n }
     {
-        let c = self.cursor;
-        let a = c.write_u8(&mut *self.dest, value, n);
-        self.cursor = after::after_moved(a, c);
-        a
+        let next = self.cursor.write_u8(&mut *self.dest, value, n)?;
+        self.cursor = next;
+        Ok(next)
     }
 
     // Past n bits, with the limits of a 64-bit write. They stay as they are.
-    pub fn advance(&mut self, n: u32) -> Moved
+    pub fn advance(&mut self, n: u32) -> Result<Cursor, BitRefusal>
         ensures { Advances result self.new self.old n }
     {
-        let c = self.cursor;
-        let a = c.write_advance(&mut *self.dest, n);
-        self.cursor = after::after_moved(a, c);
-        a
+        let next = self.cursor.write_advance(&mut *self.dest, n)?;
+        self.cursor = next;
+        Ok(next)
     }
 
     // All of src, from the cursor on.
-    pub fn write_slice(&mut self, src: &[u8]) -> Moved
+    pub fn write_slice(&mut self, src: &[u8]) -> Result<Cursor, BitRefusal>
         ensures { WritesSlice result self.new self.old src.now }
     {
-        let c = self.cursor;
-        let a = c.write_slice(&mut *self.dest, src);
-        self.cursor = after::after_moved(a, c);
-        a
+        let next = self.cursor.write_slice(&mut *self.dest, src)?;
+        self.cursor = next;
+        Ok(next)
     }
 }
 
 // The n low bits of a number, at the start of a buffer. Its contract says nothing of a writer.
-pub fn first_bits(dest: &mut [u8], value: u64, n: u32) -> Moved
+pub fn first_bits(dest: &mut [u8], value: u64, n: u32) -> Result<Cursor, BitRefusal>
     ensures { FirstBits result dest.new dest.old value n }
 {
     let mut w = BitWriter::new(dest);

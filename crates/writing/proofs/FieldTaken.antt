@@ -5,10 +5,9 @@ use Prim.Native.Nat.{ℕ, ◌+◌, ◌-◌, ◌*◌, ◌/◌, ◌%◌, ◌≤◌
 use native.Mathlib.Omega.{arith}
 use lib.Dec.{eqb, ltb}
 use borrow.Author.Tests.{le-ltb, eqb-false}
-use Rattle.std.specs.Prelude.{Result, Ok}
+use Rattle.bits.specs.declared.BitRefusal.{BitRefusal}
+use Rattle.std.specs.Prelude.{Result, Ok, ⊤}
 use Rattle.bits.specs.Bits.{pick}
-use Rattle.bits.specs.declared.Room.{Room}
-use Rattle.bits.specs.declared.Room.TheVariants as room
 use Rattle.bits.proofs.Rooms.{room_fits, slice_fits}
 use Rattle.fields.specs.declared.DecodeRefusal.{DecodeRefusal}
 use Rattle.fields.specs.declared.Shape.TheVariants as shape
@@ -17,27 +16,27 @@ use Rattle.fields.specs.Taken.{if_room_lem, short_of, if_length, room_at, bytes_
 use Rattle.tables.specs.Check.{payload_max}
 
 -- what follows a test that says nothing against it
-room-if : (r : Room) (i : ℕ) (later : Result ℕ DecodeRefusal) → r ≡ room.Fits → if_room_lem r i later ≡ later
-room-if r i later h = ap (λ (x : Room). if_room_lem x i later) h
+room-if : (r : Result ⊤ BitRefusal) (i : ℕ) (later : Result ℕ DecodeRefusal) → r ≡ Ok tt → if_room_lem r i later ≡ later
+room-if r i later h = ap (λ (x : Result ⊤ BitRefusal). if_room_lem x i later) h
 
-room-short : (strict : Bool) (i : ℕ) (r : Room) (later : Result ℕ DecodeRefusal) → r ≡ room.Fits → short_of strict i r later ≡ later
-room-short true i r later h = ap (λ (x : Room). short_of true i x later) h
-room-short false i r later h = ap (λ (x : Room). short_of false i x later) h
+room-short : (strict : Bool) (i : ℕ) (r : Result ⊤ BitRefusal) (later : Result ℕ DecodeRefusal) → r ≡ Ok tt → short_of strict i r later ≡ later
+room-short true i r later h = ap (λ (x : Result ⊤ BitRefusal). short_of true i x later) h
+room-short false i r later h = ap (λ (x : Result ⊤ BitRefusal). short_of false i x later) h
 
 length-if : (i len : ℕ) (later : Result ℕ DecodeRefusal) → len ≤ payload_max → if_length i len later ≡ later
 length-if i len later l = rw (le-ltb payload_max len l)
 
 module _ (p : Payload) (small : p.size ≤ payload_max) where
-  bits-room : (at n : ℕ) → 0 < n → n ≤ 64 → at + n ≤ p.size * 8 → room_at p at n ≡ room.Fits
+  bits-room : (at n : ℕ) → 0 < n → n ≤ 64 → at + n ≤ p.size * 8 → room_at p at n ≡ Ok tt
   bits-room at n l m k = room_fits p.size at n 64 (record { short = omega (arith, small); some = l; narrow = m; inside = k })
 
-  bytes-room : (at n : ℕ) → at % 8 ≡ 0 → at + 8 * n ≤ p.size * 8 → bytes_room_lem p at n ≡ room.Fits
+  bytes-room : (at n : ℕ) → at % 8 ≡ 0 → at + 8 * n ≤ p.size * 8 → bytes_room_lem p at n ≡ Ok tt
   bytes-room at n a k = slice_fits p.size at n (record { short = omega (arith, small); aligned = a; inside = omega (arith, a, k) })
 
-  text-room : (at n : ℕ) → (0 < n → at % 8 ≡ 0) → at + 8 * n ≤ p.size * 8 → text_room_lem p at n ≡ room.Fits
+  text-room : (at n : ℕ) → (0 < n → at % 8 ≡ 0) → at + 8 * n ≤ p.size * 8 → text_room_lem p at n ≡ Ok tt
   text-room at n a k = go (eqb n 0) refl
     where
-      go : (b : Bool) → eqb n 0 ≡ b → pick b room.Fits (bytes_room_lem p at n) ≡ room.Fits
+      go : (b : Bool) → eqb n 0 ≡ b → pick b (Ok tt) (bytes_room_lem p at n) ≡ Ok tt
       go true q = refl
       go false q = let z = eqb-false n 0 q in bytes-room at n (a (omega arith)) k
 

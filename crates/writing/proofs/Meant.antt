@@ -1,6 +1,7 @@
 -- What it says of a field that something was weighed for it: a number that has room, bits that are skipped, or bytes that lie in the lent
 -- text. Assumes nothing.
-use Rattle.std.specs.Prelude.{Result, Ok, Err, Option, Some, None}
+use Rattle.bits.specs.declared.BitRefusal.{BitRefusal}
+use Rattle.std.specs.Prelude.{Result, Ok, Err, Option, Some, None, ⊤}
 use mathlib.Core.Path.{◌≡◌, refl, subst}
 use mathlib.Core.Bool.{Bool, true, false, not, ◌||◌}
 use Prim.Native.Nat.{ℕ, ◌+◌, ◌-◌, ◌*◌, ◌/◌, ◌%◌, ◌≤◌, ◌<◌}
@@ -10,8 +11,6 @@ use borrow.Author.Tests.{ltb-false, eqb-true, not-false, ne_eqb}
 use Rattle.bits.specs.Bits.{pick}
 use Rattle.bits.specs.Calls.{bits, bytes, saturated, room_of}
 use Rattle.bits.specs.declared.BitRefusal.TheVariants.{NonAlignedBit, OutOfBits}
-use Rattle.bits.specs.declared.Room.{Room}
-use Rattle.bits.specs.declared.Room.TheVariants as room
 use Rattle.bits.proofs.Rooms.{fitting}
 use Rattle.descriptor.specs.declared.FieldDescriptor.{FieldDescriptor}
 use Rattle.descriptor.specs.declared.PgnBytes.{PgnBytes}
@@ -68,9 +67,9 @@ module _ (G : PgnValue → Type 0) (f : FieldDescriptor) (lent at : ℕ) where
   or-false false b h = (refl, h)
 
   module _ (i size : ℕ) where
-    at_room : (sh : Shape) (r : Room) (w : Result Weighed EncodeRefusal) → (r ≡ room.Fits → Meant sh w) → Meant sh (at_field_lem r i w)
-    at_room sh room.Fits w h = h refl
-    at_room sh (room.Refused e) w h = refused
+    at_room : (sh : Shape) (r : Result ⊤ BitRefusal) (w : Result Weighed EncodeRefusal) → (r ≡ Ok tt → Meant sh w) → Meant sh (at_field_lem r i w)
+    at_room sh (Ok u) w h = h refl
+    at_room sh (Err e) w h = refused
 
     number-meant : (strict : Bool) (v : PgnValue) → G v → (x : Result ℕ NumberRefusal) → raw_of_lem f v ≡ x → Meant (shape.Number strict) (number_by x i size at f.width)
     number-meant strict v g (Ok r) q =

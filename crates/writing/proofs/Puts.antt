@@ -1,5 +1,5 @@
 -- What was weighed has room. Assumes nothing.
-use Rattle.std.specs.Prelude.{Result, Ok, Err, Option, Some, None}
+use Rattle.std.specs.Prelude.{Result, Ok, Err, Option, Some, None, ⊤}
 use mathlib.Core.Path.{◌≡◌, refl, sym}
 use mathlib.Core.Bool.{Bool, true, false, not, ◌||◌}
 use Prim.Native.Nat.{ℕ, ◌+◌, ◌-◌, ◌*◌, ◌/◌, ◌%◌, ◌≤◌}
@@ -10,8 +10,7 @@ use Rattle.weighing.specs.declared.EncodeRefusal.{EncodeRefusal}
 use Rattle.bits.specs.Bits.{pick}
 use Rattle.bits.specs.Calls.{bits, saturated, room_of}
 use Rattle.bits.specs.declared.BitRefusal.TheVariants.{NonAlignedBit, OutOfBits}
-use Rattle.bits.specs.declared.Room.{Room}
-use Rattle.bits.specs.declared.Room.TheVariants as room
+use Rattle.bits.specs.declared.BitRefusal.{BitRefusal}
 use Rattle.bits.proofs.Rooms.{fitting}
 use Rattle.descriptor.specs.declared.FieldDescriptor.{FieldDescriptor}
 use Rattle.descriptor.specs.declared.PgnBytes.{PgnBytes}
@@ -40,9 +39,9 @@ module _ (size at lent : ℕ) where
   picked true x y f g = f refl
   picked false x y f g = g refl
 
-  at_room : (r : Room) (i : ℕ) (w : Result Weighed EncodeRefusal) → (r ≡ room.Fits → P w) → P (at_field_lem r i w)
-  at_room room.Fits i w f = f refl
-  at_room (room.Refused e) i w f = refl
+  at_room : (r : Result ⊤ BitRefusal) (i : ℕ) (w : Result Weighed EncodeRefusal) → (r ≡ Ok tt → P w) → P (at_field_lem r i w)
+  at_room (Ok u) i w f = f refl
+  at_room (Err e) i w f = refl
 
   pub gap-puts : (f : FieldDescriptor) (i : ℕ) → P (gap_of f i size at)
   gap-puts f i = at_room (room_of size at f.width 64) i _ (λ h. let g = fitting size at f.width 64 h in (g.short, g.inside))

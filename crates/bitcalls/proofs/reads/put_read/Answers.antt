@@ -4,5 +4,5 @@ use Rattle.text.proofs.Sheets.{then, same}
 use Rattle.bitcalls.specs.Text.{read_text}
 use Rattle.bitcalls.proofs.reads.put_read.Goals as goal
 
-pub returns-in-Got : goal.returns-in-Got
-returns-in-Got c = same (sym (ap read_text c.in-Got.is) ∙ ap read_text c.read_width.ensures) (then c.put_ok-a.ensures c.put_value.ensures)
+pub returns-in-Ok : goal.returns-in-Ok
+returns-in-Ok c = same (sym (ap read_text c.in-Ok.is) ∙ ap read_text c.read_width.ensures) (then c.put_ok-a.ensures c.put_value.ensures)

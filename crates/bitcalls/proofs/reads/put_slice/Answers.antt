@@ -4,7 +4,7 @@ use Rattle.text.proofs.Sheets.{then, same}
 use Rattle.bitcalls.specs.Text.{part_text, slice_text}
 use Rattle.bitcalls.proofs.reads.put_slice.Goals as goal
 
-pub returns-in-Got : goal.returns-in-Got
-returns-in-Got c =
-    same (sym (ap (slice_text _) c.in-Got.is) ∙ ap (slice_text _) c.read_slice.ensures)
+pub returns-in-Ok : goal.returns-in-Ok
+returns-in-Ok c =
+    same (sym (ap (slice_text _) c.in-Ok.is) ∙ ap (slice_text _) c.read_slice.ensures)
     (then c.put_ok-a.ensures (same (ap part_text c.bytes.ensures) c.put_part.ensures))
