@@ -1,63 +1,50 @@
 // The parts that answers are made of.
-ghost use Rattle.text.specs.Sheet.{Puts};
+ghost use Rattle.text.specs.Sheet.{PutsOn};
 ghost use Rattle.bitcalls.specs.Text.{ok_text, part_text, refusal_text, moved_text, written_text};
 
 use bits::{BitRefusal, Cursor};
-use text::{put_bytes, put_number, put_refused, put_text};
+use text::Page;
 
 // A call was accepted: the cursor after it.
-pub(crate) fn put_ok(out: &mut [u8], at: usize, cursor: usize) -> usize
-    ensures { Puts out.old at (ok_text cursor) out.new result }
+pub(crate) fn put_ok(page: &mut Page<'_>, cursor: usize)
+    ensures { PutsOn page.old (ok_text cursor) page.new }
 {
-    let a = put_text(out, at, b"ok");
-    put_number(out, a, cursor)
+    page.put_text(b"ok");
+    page.put_number(cursor);
 }
 
 // A space and the bytes of a part.
-pub(crate) fn put_part(out: &mut [u8], at: usize, s: &[u8]) -> usize
-    ensures { Puts out.old at (part_text s.now) out.new result }
+pub(crate) fn put_part(page: &mut Page<'_>, s: &[u8])
+    ensures { PutsOn page.old (part_text s.now) page.new }
 {
-    let a = put_text(out, at, b" ");
-    put_bytes(out, a, s)
+    page.put_text(b" ");
+    page.put_bytes(s);
 }
 
 // A call was refused. No refusal of a bit call carries more than two values.
-pub(crate) fn put_refusal(out: &mut [u8], at: usize, e: BitRefusal) -> usize
-    ensures { Puts out.old at (refusal_text e) out.new result }
+pub(crate) fn put_refusal(page: &mut Page<'_>, e: BitRefusal)
+    ensures { PutsOn page.old (refusal_text e) page.new }
 {
     let number = e.number();
     let first = e.carried(0);
     let second = e.carried(1);
-    put_refused(
-        out,
-        at,
-        number as usize,
-        e.carried_count(),
-        first,
-        second,
-        0,
-    )
+    page.put_refused(number as usize, e.carried_count(), first, second, 0);
 }
 
-pub(crate) fn put_moved(m: Result<Cursor, BitRefusal>, out: &mut [u8], at: usize) -> usize
-    ensures { Puts out.old at (moved_text m) out.new result }
+pub(crate) fn put_moved(m: Result<Cursor, BitRefusal>, page: &mut Page<'_>)
+    ensures { PutsOn page.old (moved_text m) page.new }
 {
     match m {
-        Ok(next) => put_ok(out, at, next.at.0),
-        Err(e) => put_refusal(out, at, e),
+        Ok(next) => put_ok(page, next.at.0),
+        Err(e) => put_refusal(page, e),
     }
 }
 
 // A call that writes: its answer, and the buffer after it, set off by a bar.
-pub(crate) fn put_written(
-    m: Result<Cursor, BitRefusal>,
-    s: &[u8],
-    out: &mut [u8],
-    at: usize,
-) -> usize
-    ensures { Puts out.old at (written_text m s.now) out.new result }
+pub(crate) fn put_written(m: Result<Cursor, BitRefusal>, s: &[u8], page: &mut Page<'_>)
+    ensures { PutsOn page.old (written_text m s.now) page.new }
 {
-    let a = put_moved(m, out, at);
-    let b = put_text(out, a, b" |");
-    put_part(out, b, s)
+    put_moved(m, page);
+    page.put_text(b" |");
+    put_part(page, s);
 }

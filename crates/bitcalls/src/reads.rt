@@ -1,6 +1,6 @@
 // The calls that read, and their answers.
 ghost use Rattle.std.specs.Prelude.{◌≡◌, length};
-ghost use Rattle.text.specs.Sheet.{Puts};
+ghost use Rattle.text.specs.Sheet.{PutsOn};
 ghost use Rattle.bits.specs.Calls.{read_of, advance_of, read_slice_of};
 ghost use Rattle.bitcalls.specs.Names.{widest};
 ghost use Rattle.bitcalls.specs.Text.{read_text, moved_text, slice_text, remaining_text};
@@ -8,7 +8,7 @@ ghost use Rattle.bitcalls.specs.Text.{read_text, moved_text, slice_text, remaini
 use crate::answers::{put_moved, put_ok, put_part, put_refusal};
 use crate::names::Width;
 use bits::{BitRefusal, ByteCount, Cursor, Read};
-use text::{put_malformed, put_number, put_value};
+use text::Page;
 
 // The answers of the four widths in one type.
 fn read_width(w: Width, c: Cursor, s: &[u8], n: u32) -> Result<Read<u64>, BitRefusal>
@@ -40,44 +40,44 @@ fn read_width(w: Width, c: Cursor, s: &[u8], n: u32) -> Result<Read<u64>, BitRef
     }
 }
 
-pub(crate) fn put_read(w: Width, c: Cursor, s: &[u8], n: u32, out: &mut [u8], at: usize) -> usize
-    ensures { Puts out.old at (read_text (read_of s.now c n (widest w))) out.new result }
+pub(crate) fn put_read(w: Width, c: Cursor, s: &[u8], n: u32, page: &mut Page<'_>)
+    ensures { PutsOn page.old (read_text (read_of s.now c n (widest w))) page.new }
 {
     match read_width(w, c, s, n) {
         Ok(read) => {
-            let a = put_ok(out, at, read.next.at.0);
-            put_value(out, a, read.value)
+            put_ok(page, read.next.at.0);
+            page.put_value(read.value);
         }
-        Err(e) => put_refusal(out, at, e),
+        Err(e) => put_refusal(page, e),
     }
 }
 
-pub(crate) fn put_advance(c: Cursor, s: &[u8], n: u32, out: &mut [u8], at: usize) -> usize
-    ensures { Puts out.old at (moved_text (advance_of (length s.now) c n 64)) out.new result }
+pub(crate) fn put_advance(c: Cursor, s: &[u8], n: u32, page: &mut Page<'_>)
+    ensures { PutsOn page.old (moved_text (advance_of (length s.now) c n 64)) page.new }
 {
-    put_moved(c.advance(s, n), out, at)
+    put_moved(c.advance(s, n), page);
 }
 
-pub(crate) fn put_slice(c: Cursor, s: &[u8], n: usize, out: &mut [u8], at: usize) -> usize
-    ensures { Puts out.old at (slice_text s.now (read_slice_of (length s.now) c n)) out.new result }
+pub(crate) fn put_slice(c: Cursor, s: &[u8], n: usize, page: &mut Page<'_>)
+    ensures { PutsOn page.old (slice_text s.now (read_slice_of (length s.now) c n)) page.new }
 {
     match c.read_slice(s, ByteCount(n)) {
         Ok(read) => {
-            let a = put_ok(out, at, read.next.at.0);
-            put_part(out, a, read.value.bytes(s))
+            put_ok(page, read.next.at.0);
+            put_part(page, read.value.bytes(s));
         }
-        Err(e) => put_refusal(out, at, e),
+        Err(e) => put_refusal(page, e),
     }
 }
 
 // `count` says nothing in this call, and has to be 0.
-pub(crate) fn put_remaining(c: Cursor, s: &[u8], count: usize, out: &mut [u8], at: usize) -> usize
-    ensures { Puts out.old at (remaining_text c s.now count) out.new result }
+pub(crate) fn put_remaining(c: Cursor, s: &[u8], count: usize, page: &mut Page<'_>)
+    ensures { PutsOn page.old (remaining_text c s.now count) page.new }
 {
     if count != 0 {
-        return put_malformed(out, at);
+        return page.put_malformed();
     }
     let left = c.bits_remaining(s);
-    let a = put_ok(out, at, c.at.0);
-    put_number(out, a, left.0)
+    put_ok(page, c.at.0);
+    page.put_number(left.0);
 }

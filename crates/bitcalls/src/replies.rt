@@ -1,7 +1,7 @@
 // A line's fields, and which call they go to; and a chunk of input, line by line.
 ghost use Rattle.std.specs.Prelude.{◌≤◌, ◌≡◌, ◌&&◌};
 ghost use Rattle.bits.specs.Calls.{cursor_at};
-ghost use Rattle.text.specs.Sheet.{Puts};
+ghost use Rattle.text.specs.Sheet.{PutsOn};
 ghost use Rattle.columns.specs.Parts.{field};
 ghost use Rattle.columns.specs.Numbers.{decimal_in};
 ghost use Rattle.bitcalls.specs.Answers.{counted_text, form_text, answer_text, answered};
@@ -12,7 +12,7 @@ use crate::writes::{put_write, put_write_advance, put_write_slice};
 use bits::{BitPos, Cursor};
 use columns::{Number, word};
 use lines::Answers;
-use text::{put, put_malformed};
+use text::Page;
 
 fn place(n: u64) -> usize
     ensures { result ≡ n }
@@ -47,47 +47,39 @@ fn narrow(n: usize) -> u32
 }
 
 // A call by its fields; `text` is the VALUE, if there is one.
-fn put_call(
-    call: Call,
-    c: Cursor,
-    s: &mut [u8],
-    count: usize,
-    text: &[u8],
-    out: &mut [u8],
-    at: usize,
-) -> usize
-    ensures { Puts out.old at (counted_text call c s.old count text.now) out.new result }
+fn put_call(call: Call, c: Cursor, s: &mut [u8], count: usize, text: &[u8], page: &mut Page<'_>)
+    ensures { PutsOn page.old (counted_text call c s.old count text.now) page.new }
 {
     if count_max(call) < count {
-        return put_malformed(out, at);
+        return page.put_malformed();
     }
     let n = narrow(count);
     match call {
-        Call::Read(w) => put_read(w, c, s, n, out, at),
-        Call::Advance => put_advance(c, s, n, out, at),
-        Call::ReadSlice => put_slice(c, s, count, out, at),
-        Call::Write(w) => put_write(w, c, s, n, text, out, at),
-        Call::WriteAdvance => put_write_advance(c, s, n, out, at),
-        Call::WriteSlice => put_write_slice(c, s, count, text, out, at),
-        Call::Remaining => put_remaining(c, s, count, out, at),
-        Call::Unknown => put_malformed(out, at),
+        Call::Read(w) => put_read(w, c, s, n, page),
+        Call::Advance => put_advance(c, s, n, page),
+        Call::ReadSlice => put_slice(c, s, count, page),
+        Call::Write(w) => put_write(w, c, s, n, text, page),
+        Call::WriteAdvance => put_write_advance(c, s, n, page),
+        Call::WriteSlice => put_write_slice(c, s, count, text, page),
+        Call::Remaining => put_remaining(c, s, count, page),
+        Call::Unknown => page.put_malformed(),
     }
 }
 
 // A line, with what the fields that every line has were read as.
-fn put_form(line: &[u8], c: Cursor, s: &mut [u8], count: usize, out: &mut [u8], at: usize) -> usize
-    ensures { Puts out.old at (form_text line.now c s.old count) out.new result }
+fn put_form(line: &[u8], c: Cursor, s: &mut [u8], count: usize, page: &mut Page<'_>)
+    ensures { PutsOn page.old (form_text line.now c s.old count) page.new }
 {
     let call = call_of(line);
     if columns::marks(line, b' ') != spaces_of(call) {
-        return put_malformed(out, at);
+        return page.put_malformed();
     }
-    put_call(call, c, s, count, word(line, 4), out, at)
+    put_call(call, c, s, count, word(line, 4), page);
 }
 
 // The answer to a line, without its newline.
-fn put_reply(line: &[u8], out: &mut [u8], at: usize) -> usize
-    ensures { Puts out.old at (answer_text line.now) out.new result }
+fn put_reply(line: &[u8], page: &mut Page<'_>)
+    ensures { PutsOn page.old (answer_text line.now) page.new }
 {
     let mut buffer = [0u8; 256];
     let cursor = number(line, 1);
@@ -95,10 +87,10 @@ fn put_reply(line: &[u8], out: &mut [u8], at: usize) -> usize
     let run = columns::bytes(word(line, 3), &mut buffer);
     let n = run.len;
     if !all(cursor.good, count.good, run.good) {
-        return put_malformed(out, at);
+        return page.put_malformed();
     }
     let c = cursor_of(cursor.value);
-    put_form(line, c, &mut buffer[0..n], place(count.value), out, at)
+    put_form(line, c, &mut buffer[0..n], place(count.value), page);
 }
 
 // What answers the lines.
@@ -108,8 +100,8 @@ pub(crate) struct Calls;
 impl Answers for Calls {
     ghost answered = { answered };
 
-    fn put_answer(&mut self, line: &[u8], out: &mut [u8], at: usize) -> usize {
-        let to = put_reply(line, out, at);
-        put(out, to, b'\n')
+    fn put_answer(&mut self, line: &[u8], page: &mut Page<'_>) {
+        put_reply(line, page);
+        page.put(b'\n');
     }
 }

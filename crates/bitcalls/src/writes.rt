@@ -1,6 +1,6 @@
 // The calls that write, and their answers, which end with the buffer as the call left it.
 ghost use Rattle.std.specs.Prelude.{◌≡◌, ◌≤◌, length};
-ghost use Rattle.text.specs.Sheet.{Puts};
+ghost use Rattle.text.specs.Sheet.{PutsOn};
 ghost use Rattle.bits.specs.Calls.{advance_of, written_of};
 ghost use Rattle.bitcalls.specs.Names.{widest, largest};
 ghost use Rattle.bitcalls.specs.Text.{written_text, write_text, write_slice_text};
@@ -8,7 +8,7 @@ ghost use Rattle.bitcalls.specs.Text.{written_text, write_text, write_slice_text
 use crate::answers::put_written;
 use crate::names::{Width, most};
 use bits::{BitRefusal, Cursor};
-use text::put_malformed;
+use text::Page;
 
 // The low bits of v: v itself where `most` allows it.
 fn low32(v: u64) -> u32
@@ -42,34 +42,26 @@ fn write_width(w: Width, c: Cursor, s: &mut [u8], v: u64, n: u32) -> Result<Curs
 }
 
 // `text` is the VALUE field: a number that fits the call's width.
-pub(crate) fn put_write(
-    w: Width,
-    c: Cursor,
-    s: &mut [u8],
-    n: u32,
-    text: &[u8],
-    out: &mut [u8],
-    at: usize,
-) -> usize
-    ensures { Puts out.old at (write_text w c s.old n text.now) out.new result }
+pub(crate) fn put_write(w: Width, c: Cursor, s: &mut [u8], n: u32, text: &[u8], page: &mut Page<'_>)
+    ensures { PutsOn page.old (write_text w c s.old n text.now) page.new }
 {
     let value = columns::hex(text);
     let v = value.value;
     if !value.good {
-        return put_malformed(out, at);
+        return page.put_malformed();
     }
     if most(w) < v {
-        return put_malformed(out, at);
+        return page.put_malformed();
     }
     let m = write_width(w, c, s, v, n);
-    put_written(m, s, out, at)
+    put_written(m, s, page);
 }
 
-pub(crate) fn put_write_advance(c: Cursor, s: &mut [u8], n: u32, out: &mut [u8], at: usize) -> usize
-    ensures { Puts out.old at (written_text (advance_of (length s.old) c n 64) s.old) out.new result }
+pub(crate) fn put_write_advance(c: Cursor, s: &mut [u8], n: u32, page: &mut Page<'_>)
+    ensures { PutsOn page.old (written_text (advance_of (length s.old) c n 64) s.old) page.new }
 {
     let m = c.write_advance(s, n);
-    put_written(m, s, out, at)
+    put_written(m, s, page);
 }
 
 // `text` is the VALUE field: the source's bytes, `count` of them.
@@ -78,20 +70,19 @@ pub(crate) fn put_write_slice(
     s: &mut [u8],
     count: usize,
     text: &[u8],
-    out: &mut [u8],
-    at: usize,
-) -> usize
-    ensures { Puts out.old at (write_slice_text c s.old count text.now) out.new result }
+    page: &mut Page<'_>,
+)
+    ensures { PutsOn page.old (write_slice_text c s.old count text.now) page.new }
 {
     let mut source = [0u8; 256];
     let run = columns::bytes(text, &mut source);
     let n = run.len;
     if !run.good {
-        return put_malformed(out, at);
+        return page.put_malformed();
     }
     if n != count {
-        return put_malformed(out, at);
+        return page.put_malformed();
     }
     let m = c.write_slice(s, &source[0..n]);
-    put_written(m, s, out, at)
+    put_written(m, s, page);
 }

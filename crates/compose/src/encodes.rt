@@ -1,11 +1,11 @@
 // The encodes: by the table of a built-in message, and by any table.
 ghost use Rattle.std.specs.Prelude.{◌≤◌};
-ghost use Rattle.text.specs.Sheet.{Puts};
+ghost use Rattle.text.specs.Sheet.{PutsOn};
 ghost use Rattle.messages.specs.Messages.{message_of_lem};
 ghost use Rattle.compose.specs.Answers.{frame_line, known_text, pgn_line, encode_text, buffer_of, table_text};
 
 use crate::answers::{put_buffer, put_made, put_malformed, put_outcome};
-use text::put;
+use text::Page;
 
 const PGN_DIGITS: usize = 6;
 
@@ -16,59 +16,45 @@ const SIZE_MAX: usize = 300;
 const UNTOUCHED: u8 = 0xa5;
 
 // The frame of a message: values by its table into a payload.
-fn put_frame(
-    words: &[u64],
-    pgn: u32,
-    values: &[u8],
-    lent: &[u8],
-    out: &mut [u8],
-    at: usize,
-) -> usize
-    ensures { Puts out.old at (frame_line words.now pgn values.now lent.now) out.new result }
+fn put_frame(words: &[u64], pgn: u32, values: &[u8], lent: &[u8], page: &mut Page<'_>)
+    ensures { PutsOn page.old (frame_line words.now pgn values.now lent.now) page.new }
 {
     let mut payload = [0u8; tables::PAYLOAD_MAX];
     let encoded = writing::encode(words, values, lent, &mut payload);
-    let to = put_made(out, at, pgn, &payload, encoded);
-    put(out, to, b'\n')
+    put_made(page, pgn, &payload, encoded);
+    page.put(b'\n');
 }
 
 // A built-in message, or 15.
-fn put_known(pgn: u32, values: &[u8], lent: &[u8], out: &mut [u8], at: usize) -> usize
-    ensures { Puts out.old at (known_text (message_of_lem pgn) pgn values.now lent.now) out.new result }
+fn put_known(pgn: u32, values: &[u8], lent: &[u8], page: &mut Page<'_>)
+    ensures { PutsOn page.old (known_text (message_of_lem pgn) pgn values.now lent.now) page.new }
 {
     match messages::message_of(pgn) {
-        Some(message) => put_frame(message.table(), pgn, values, lent, out, at),
-        None => frame_lines::put_unknown(out, at, pgn),
+        Some(message) => put_frame(message.table(), pgn, values, lent, page),
+        None => frame_lines::put_unknown(page, pgn),
     }
 }
 
 // A PGN in six digits.
-pub(crate) fn put_by_pgn(s: &[u8], values: &[u8], lent: &[u8], out: &mut [u8], at: usize) -> usize
-    ensures { Puts out.old at (pgn_line s.now values.now lent.now) out.new result }
+pub(crate) fn put_by_pgn(s: &[u8], values: &[u8], lent: &[u8], page: &mut Page<'_>)
+    ensures { PutsOn page.old (pgn_line s.now values.now lent.now) page.new }
 {
     let pgn = columns::hex(s);
     if pgn.good & (s.len() == PGN_DIGITS) {
-        return put_known(pgn.value as u32, values, lent, out, at);
+        return put_known(pgn.value as u32, values, lent, page);
     }
-    put_malformed(out, at)
+    put_malformed(page);
 }
 
 // An encode by a table into a buffer of so many bytes, and the buffer after it.
-fn put_sized(
-    words: &[u64],
-    size: usize,
-    values: &[u8],
-    lent: &[u8],
-    out: &mut [u8],
-    at: usize,
-) -> usize
+fn put_sized(words: &[u64], size: usize, values: &[u8], lent: &[u8], page: &mut Page<'_>)
     requires { size ≤ 300 }
-    ensures { Puts out.old at (encode_text words.now values.now lent.now (buffer_of size)) out.new result }
+    ensures { PutsOn page.old (encode_text words.now values.now lent.now (buffer_of size)) page.new }
 {
     let mut buffer = [UNTOUCHED; SIZE_MAX];
     let encoded = writing::encode(words, values, lent, &mut buffer[0..size]);
-    let to = put_outcome(out, at, encoded);
-    put_buffer(out, to, &buffer[0..size])
+    put_outcome(page, encoded);
+    put_buffer(page, &buffer[0..size]);
 }
 
 // Any table, and a buffer.
@@ -77,10 +63,9 @@ pub(crate) fn put_by_table(
     size: &[u8],
     values: &[u8],
     lent: &[u8],
-    out: &mut [u8],
-    at: usize,
-) -> usize
-    ensures { Puts out.old at (table_text table.now size.now values.now lent.now) out.new result }
+    page: &mut Page<'_>,
+)
+    ensures { PutsOn page.old (table_text table.now size.now values.now lent.now) page.new }
 {
     let mut words = [0u64; 200];
     let run = columns::words(table, b',', &mut words);
@@ -88,7 +73,7 @@ pub(crate) fn put_by_table(
     let bytes = columns::decimal(size);
     let count = bytes.value as usize;
     if run.good & (bytes.good & (count <= SIZE_MAX)) {
-        return put_sized(&words[0..n], count, values, lent, out, at);
+        return put_sized(&words[0..n], count, values, lent, page);
     }
-    put_malformed(out, at)
+    put_malformed(page);
 }

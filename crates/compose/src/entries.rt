@@ -1,6 +1,6 @@
 // The values of a line: each a record of 24 bytes, as `offers` reads them, its text in the lent text.
 ghost use Rattle.std.specs.Prelude.{◌≤◌, ◌≡◌, true, length};
-ghost use Rattle.text.specs.Sheet.{Puts};
+ghost use Rattle.text.specs.Sheet.{Puts, PutsOn};
 ghost use Rattle.compose.specs.Values.{numbered, text_value, encoded_value, coded_value, none, value_of};
 ghost use Rattle.compose.specs.Records.{low_bytes, record_by};
 ghost use Rattle.compose.specs.Clauses.{entry, entry_of, told, told_by, no_listed, Adds, Collects};
@@ -8,7 +8,7 @@ ghost use Rattle.compose.specs.Clauses.{entry, entry_of, told, told_by, no_liste
 use crate::decimals;
 use crate::decimals::{head, tail};
 use columns::{Number, decimal, field_end, part};
-use text::put;
+use text::Page;
 
 // The codes of the kinds that have a letter.
 const U64: u64 = 1;
@@ -138,26 +138,27 @@ fn entry_of(s: &[u8], lent: &mut [u8], used: usize) -> Entry
 }
 
 // Puts a word, the lowest byte first.
-fn put_word(values: &mut [u8], at: usize, w: u64) -> usize
-    ensures { Puts values.old at (low_bytes 8 w) values.new result }
+fn put_word(page: &mut Page<'_>, w: u64)
+    ensures { PutsOn page.old (low_bytes 8 w) page.new }
 {
-    let mut to = at;
-    let mut rest = w;
-    let mut i: usize = 0;
-    while i < 8 {
-        to = put(values, to, (rest % 256) as u8);
-        rest /= 256;
-        i += 1;
-    }
-    to
+    page.put_text(&w.to_le_bytes());
 }
 
+fn put_record(page: &mut Page<'_>, e: Entry)
+    ensures { PutsOn page.old (record_by e.head e.word e.len) page.new }
+{
+    put_word(page, e.head);
+    put_word(page, e.word);
+    put_word(page, e.len as u64);
+}
+
+// A record on the lent values, with the place after it.
 fn put_entry(values: &mut [u8], at: usize, e: Entry) -> usize
     ensures { Puts values.old at (record_by e.head e.word e.len) values.new result }
 {
-    let a = put_word(values, at, e.head);
-    let b = put_word(values, a, e.word);
-    put_word(values, b, e.len as u64)
+    let mut page = Page::new(values, at);
+    put_record(&mut page, e);
+    page.at
 }
 
 fn none_listed() -> Listed

@@ -1,6 +1,6 @@
 // The orders, line by line: the fields of a line, and which encode they go to.
 ghost use Rattle.std.specs.Prelude.{◌≡◌, drop};
-ghost use Rattle.text.specs.Sheet.{Puts};
+ghost use Rattle.text.specs.Sheet.{PutsOn};
 ghost use Rattle.columns.specs.Parts.{space, parts_of};
 ghost use Rattle.compose.specs.Answers.{is_t_lem, leading, order_text, answered};
 ghost use Rattle.compose.specs.Clauses.{fields_after};
@@ -10,6 +10,7 @@ use crate::encodes::{put_by_pgn, put_by_table};
 use crate::entries::list_values;
 use columns::{field_end, part, word};
 use lines::Answers;
+use text::Page;
 
 // The records of 2,000 values.
 pub(crate) const RECORDS_MAX: usize = 48000;
@@ -27,14 +28,14 @@ fn is_t(s: &[u8]) -> bool
     s[0] == b'T'
 }
 
-fn put_order(line: &[u8], values: &[u8], lent: &[u8], out: &mut [u8], at: usize) -> usize
-    ensures { Puts out.old at (order_text line.now values.now lent.now) out.new result }
+fn put_order(line: &[u8], values: &[u8], lent: &[u8], page: &mut Page<'_>)
+    ensures { PutsOn page.old (order_text line.now values.now lent.now) page.new }
 {
     let first = word(line, 0);
     if is_t(first) {
-        return put_by_table(word(line, 1), word(line, 2), values, lent, out, at);
+        return put_by_table(word(line, 1), word(line, 2), values, lent, page);
     }
-    put_by_pgn(first, values, lent, out, at)
+    put_by_pgn(first, values, lent, page);
 }
 
 // Where the field after one that ends at `end` ends.
@@ -79,17 +80,16 @@ impl Orders {
 impl Answers for Orders {
     ghost answered = { answered };
 
-    fn put_answer(&mut self, line: &[u8], out: &mut [u8], at: usize) -> usize {
+    fn put_answer(&mut self, line: &[u8], page: &mut Page<'_>) {
         let listed = list_values(line, values_from(line), &mut self.values, &mut self.lent);
         if !listed.good {
-            return put_malformed(out, at);
+            return put_malformed(page);
         }
         put_order(
             line,
             part(&self.values, 0, listed.bytes),
             part(&self.lent, 0, listed.text),
-            out,
-            at,
-        )
+            page,
+        );
     }
 }

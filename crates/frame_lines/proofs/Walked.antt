@@ -6,8 +6,9 @@ use mathlib.Core.List.{List, [], ◌∷◌, ◌++◌, append-nil, append_assoc, 
 use Prim.Native.Nat.{ℕ}
 use native.Mathlib.Omega.{arith}
 use Rattle.std.specs.Prelude.{Result, Ok, Err}
-use Rattle.text.specs.Sheet.{Puts}
-use Rattle.text.proofs.Sheets.{nothing, then, same}
+use Rattle.text.specs.declared.pages.Page.{Page}
+use Rattle.text.specs.Sheet.{PutsOn}
+use Rattle.text.proofs.Putting.{nothing, then, same}
 use Rattle.tables.specs.Table.{Table}
 use Rattle.walking.proofs.Machine.{stands-begin}
 use Rattle.fields.specs.declared.DecodeRefusal.{DecodeRefusal}
@@ -40,30 +41,30 @@ module _ (text : Reading → List ℕ) where
 
   module _ (t : Table) (p : Payload) (room : ℕ) where
     -- a walk has come so far, and the texts of its readings stand on the page
-    pub record Printed (old : List ℕ) (at : ℕ) (new : List ℕ) (to : ℕ) (w : Walk) : Type 0 where
+    pub record Printed (old new : Page) (w : Walk) : Type 0 where
       pub going : Going t p room w
-      pub puts : Puts old at (flat_map text (readings t p going.done)) new to
+      pub puts : PutsOn old (flat_map text (readings t p going.done)) new
 
-    pub begins : (page : List ℕ) (at : ℕ) → Printed page at page at start_of
+    pub begins : (page : Page) → Printed page page start_of
     unfolding readings flat_map
-    begins page at = record {
+    begins page = record {
       going = record { done = []; stands = stands-begin t (one_of t p room) (count_of t p) too_many beginning; made = refl; bounded = tt };
-      puts = nothing page at;
+      puts = nothing page;
     }
 
-    module _ {old mid new : List ℕ} {at by to : ℕ} {w : Walk} {n : Next} (q : Printed old at mid by w) (u : Turned t p room w q.going n) where
+    module _ {old mid new : Page} {w : Walk} {n : Next} (q : Printed old mid w) (u : Turned t p room w q.going n) where
       -- a turn that is not the last, with the text of the reading that it hands out, if it does
-      pub goes : goes_on_lem n.answer ≡ true → Puts mid by (flat_map text (handed n.answer)) new to → Printed old at new to n.walk
+      pub goes : goes_on_lem n.answer ≡ true → PutsOn mid (flat_map text (handed n.answer)) new → Printed old new n.walk
       goes o x =
           let g = u.on o in
           record { going = g.still; puts = same (sym (texts-append (readings t p q.going.done) (handed n.answer)) ∙ ap (flat_map text) (sym g.hands)) (then q.puts x) }
 
       -- the last one, with any text
-      pub over : goes_on_lem n.answer ≡ false → {last : List ℕ} → Puts mid by last new to → Puts old at (flat_map text (all t p room) ++ last) new to
+      pub over : goes_on_lem n.answer ≡ false → {last : List ℕ} → PutsOn mid last new → PutsOn old (flat_map text (all t p room) ++ last) new
       over o {last} x = same (ap (λ (rs : List Reading). flat_map text rs ++ last) (sym (u.last o))) (then q.puts x)
 
       -- .. with that of the reading that it hands out, which is none
-      pub ended : goes_on_lem n.answer ≡ false → Puts mid by (flat_map text (handed n.answer)) new to → Puts old at (flat_map text (all t p room)) new to
+      pub ended : goes_on_lem n.answer ≡ false → PutsOn mid (flat_map text (handed n.answer)) new → PutsOn old (flat_map text (all t p room)) new
       unfolding flat_map
       ended o x = same (append-nil (flat_map text (all t p room))) (over o (same (ap (flat_map text) (none-handed n.answer o)) x))
 
@@ -90,7 +91,7 @@ module _ (t : Table) (p : Payload) (room : ℕ) where
       go (Ok Ended) e h = sym (ap last_line_lem (u.ends e))
       go (Err f) e h = sym (ap last_line_lem (u.stops f e))
 
-  pub ends : {old mid new : List ℕ} {at by to : ℕ} {w : Walk} {n : Next} (q : Printed reading_line t p room old at mid by w) → Turned t p room w q.going n
-      → goes_on_lem n.answer ≡ false → Puts mid by (turn_text n.answer n.walk.progress.at.0) new to → Puts old at (walk_text t p room) new to
+  pub ends : {old mid new : Page} {w : Walk} {n : Next} (q : Printed reading_line t p room old mid w) → Turned t p room w q.going n
+      → goes_on_lem n.answer ≡ false → PutsOn mid (turn_text n.answer n.walk.progress.at.0) new → PutsOn old (walk_text t p room) new
   ends {w = w} {n = n} q u o x =
       same (ap (λ (z : List ℕ). flat_map reading_line (all t p room) ++ z) (last_line w q.going n u o)) (over reading_line t p room q u o x)

@@ -1,11 +1,12 @@
 // What answers lines, and what holds them.
 ghost use Rattle.std.specs.Prelude.{◌≡◌, ℕ, List, length};
-ghost use Rattle.text.specs.Sheet.{Puts};
+ghost use Rattle.text.specs.Sheet.{Puts, PutsOn};
 ghost use Rattle.lines.specs.Machine.{Machine, up_to_newline, feds};
 ghost use Rattle.lines.specs.Held.{nothing_held, Store, store, held};
 
 use crate::Held;
 use crate::holding::{feed, line_of, nothing};
+use text::Page;
 
 // A program that answers lines, by what it holds of the line that is being taken.
 pub trait Program {
@@ -36,8 +37,8 @@ pub trait Answers {
 
     // Puts the answer to a line, with its newlines. What it works with may change; what it answers does
     // not.
-    fn put_answer(&mut self, line: &[u8], out: &mut [u8], at: usize) -> usize
-        ensures { Puts out.old at (answered line.now) out.new result };
+    fn put_answer(&mut self, line: &[u8], page: &mut Page<'_>)
+        ensures { PutsOn page.old (answered line.now) page.new };
 }
 
 // A program that holds each line in a buffer of N bytes, until it is answered.
@@ -75,8 +76,10 @@ impl<A: Answers, const N: usize> Program for Lines<A, N> {
     }
 
     fn put_answer(&mut self, out: &mut [u8], at: usize) -> usize {
+        let mut page = Page::new(out, at);
         self.answers
-            .put_answer(line_of(self.held, &self.line), out, at)
+            .put_answer(line_of(self.held, &self.line), &mut page);
+        page.at
     }
 
     fn begin_line(&mut self) {

@@ -1,13 +1,13 @@
 // A line, and which call it is; and a chunk of input, line by line.
 ghost use Rattle.std.specs.Prelude.{◌≡◌};
-ghost use Rattle.text.specs.Sheet.{Puts};
+ghost use Rattle.text.specs.Sheet.{PutsOn};
 ghost use Rattle.numbercalls.specs.Answers.{is_call, call_text, answer_text, answered};
 
 use crate::calls::{put_raw, put_scale};
 use crate::line_fields::{Field, field_of};
 use columns::{same, word};
 use lines::Answers;
-use text::{put, put_malformed};
+use text::Page;
 
 // Whether a line is a call of this name, with so many spaces between its words.
 fn is_call(line: &[u8], name: &[u8], spaces: usize) -> bool
@@ -16,27 +16,27 @@ fn is_call(line: &[u8], name: &[u8], spaces: usize) -> bool
     same(word(line, 0), name) & (columns::marks(line, b' ') == spaces)
 }
 
-fn put_call(f: Field, line: &[u8], out: &mut [u8], at: usize) -> usize
-    ensures { Puts out.old at (call_text f line.now) out.new result }
+fn put_call(f: Field, line: &[u8], page: &mut Page<'_>)
+    ensures { PutsOn page.old (call_text f line.now) page.new }
 {
     if is_call(line, b"scale", 6) {
-        return put_scale(f, word(line, 6), out, at);
+        return put_scale(f, word(line, 6), page);
     }
     if is_call(line, b"raw", 7) {
-        return put_raw(f, word(line, 6), word(line, 7), out, at);
+        return put_raw(f, word(line, 6), word(line, 7), page);
     }
-    put_malformed(out, at)
+    page.put_malformed();
 }
 
 // The answer to a line, without its newline.
-fn put_reply(line: &[u8], out: &mut [u8], at: usize) -> usize
-    ensures { Puts out.old at (answer_text line.now) out.new result }
+fn put_reply(line: &[u8], page: &mut Page<'_>)
+    ensures { PutsOn page.old (answer_text line.now) page.new }
 {
     let f = field_of(line);
     if !f.good {
-        return put_malformed(out, at);
+        return page.put_malformed();
     }
-    put_call(f, line, out, at)
+    put_call(f, line, page);
 }
 
 // What answers the lines.
@@ -46,8 +46,8 @@ pub(crate) struct Calls;
 impl Answers for Calls {
     ghost answered = { answered };
 
-    fn put_answer(&mut self, line: &[u8], out: &mut [u8], at: usize) -> usize {
-        let to = put_reply(line, out, at);
-        put(out, to, b'\n')
+    fn put_answer(&mut self, line: &[u8], page: &mut Page<'_>) {
+        put_reply(line, page);
+        page.put(b'\n');
     }
 }

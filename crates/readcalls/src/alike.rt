@@ -1,12 +1,13 @@
 // Whether the turns and the one call came to the same. It is proved that they do, so no answer shows it:
 // the line X would say that the compiled code is not what was proved.
 ghost use Rattle.std.specs.Prelude.{◌≡◌};
-ghost use Rattle.text.specs.Sheet.{Puts};
+ghost use Rattle.text.specs.Sheet.{PutsOn};
 ghost use Rattle.readcalls.specs.Alike.{alike_at, alike, is_one_end_lem, is_same_lem, difference_text};
 
 use bits::BitPos;
 use fields::DecodeRefusal;
 use reading::Decoded;
+use text::Page;
 
 fn is_alike_at(a: DecodeRefusal, b: DecodeRefusal, i: usize) -> bool
     ensures { result ≡ alike_at a b i }
@@ -43,11 +44,11 @@ pub(crate) fn is_same(a: Decoded, b: Decoded) -> bool
 }
 
 // The line that never comes.
-pub(crate) fn put_difference(out: &mut [u8], at: usize, same: bool) -> usize
-    ensures { Puts out.old at (difference_text same) out.new result }
+pub(crate) fn put_difference(page: &mut Page<'_>, same: bool)
+    ensures { PutsOn page.old (difference_text same) page.new }
 {
     if same {
-        return at;
+        return;
     }
-    text::put_text(out, at, b"X\n")
+    page.put_text(b"X\n")
 }

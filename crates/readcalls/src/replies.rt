@@ -1,6 +1,6 @@
 // The cases, line by line: the decode turn by turn, then in one call, and what both came to.
 ghost use Rattle.std.specs.Prelude.{◌≤◌, ◌≡◌, ◌&&◌, [], ◌++◌, eqb, leb, get_or, replicate};
-ghost use Rattle.text.specs.Sheet.{Puts};
+ghost use Rattle.text.specs.Sheet.{PutsOn};
 ghost use Rattle.columns.specs.Parts.{space, parts_of};
 ghost use Rattle.columns.specs.Numbers.{decimal_in};
 ghost use Rattle.tables.specs.Table.{table_of};
@@ -13,25 +13,19 @@ use crate::turning::put_turns;
 use columns::{Number, word};
 use lines::Answers;
 use reading::Decoded;
+use text::Page;
 
 const PADDING_MAX: u64 = 300;
 
 // What both ways came to, with their padding runs.
-fn put_outcome(
-    decoded: Decoded,
-    whole: Decoded,
-    first: &[u8],
-    second: &[u8],
-    out: &mut [u8],
-    at: usize,
-) -> usize
+fn put_outcome(decoded: Decoded, whole: Decoded, first: &[u8], second: &[u8], page: &mut Page<'_>)
     requires { (decoded ≡ whole) × (first.now ≡ second.now) }
-    ensures { Puts out.old at (last_line_lem decoded ++ run_line first.now) out.new result }
+    ensures { PutsOn page.old (last_line_lem decoded ++ run_line first.now) page.new }
 {
-    let a = put_decoded(out, at, decoded);
-    let b = put_run(out, a, first);
+    put_decoded(page, decoded);
+    put_run(page, first);
     let same = is_same(decoded, whole) & check::same(first, second);
-    put_difference(out, b, same)
+    put_difference(page, same);
 }
 
 // Both ways through a payload, each with a padding run of its own, which hold the same.
@@ -41,29 +35,20 @@ fn put_both(
     first: &mut [u8],
     second: &mut [u8],
     room: usize,
-    out: &mut [u8],
-    at: usize,
-) -> usize
+    page: &mut Page<'_>,
+)
     requires { first.old ≡ second.old }
-    ensures { Puts out.old at (decode_text (table_of words.now) received.now first.old room) out.new result }
+    ensures { PutsOn page.old (decode_text (table_of words.now) received.now first.old room) page.new }
 {
-    let turned = put_turns(words, received, first, room, out, at);
-    let decoded = turned.decoded;
+    let decoded = put_turns(words, received, first, room, page);
     let whole = reading::for_each_field(words, received, second, room);
-    put_outcome(decoded, whole, first, second, out, turned.to)
+    put_outcome(decoded, whole, first, second, page);
 }
 
 // The text of a case: both padding runs have so many bytes.
-fn put_replay(
-    words: &[u64],
-    received: &[u8],
-    padding: usize,
-    room: usize,
-    out: &mut [u8],
-    at: usize,
-) -> usize
+fn put_replay(words: &[u64], received: &[u8], padding: usize, room: usize, page: &mut Page<'_>)
     requires { padding ≤ padding_max }
-    ensures { Puts out.old at (decode_text (table_of words.now) received.now (replicate padding untouched) room) out.new result }
+    ensures { PutsOn page.old (decode_text (table_of words.now) received.now (replicate padding untouched) room) page.new }
 {
     let mut first = [UNTOUCHED; 300];
     let mut second = [UNTOUCHED; 300];
@@ -73,9 +58,8 @@ fn put_replay(
         &mut first[0..padding],
         &mut second[0..padding],
         room,
-        out,
-        at,
-    )
+        page,
+    );
 }
 
 fn place(n: u64) -> usize
@@ -105,7 +89,7 @@ pub(crate) struct Cases;
 impl Answers for Cases {
     ghost answered = { answered };
 
-    fn put_answer(&mut self, line: &[u8], out: &mut [u8], at: usize) -> usize {
+    fn put_answer(&mut self, line: &[u8], page: &mut Page<'_>) {
         let mut words = [0u64; 200];
         let mut payload = [0u8; 300];
         let room = number(line, 0);
@@ -114,7 +98,7 @@ impl Answers for Cases {
         let received = columns::bytes(word(line, 3), &mut payload);
         let spaces = columns::marks(line, b' ');
         if !is_case(spaces, room.good, padding, table.good, received.good) {
-            return text::put_text(out, at, b"F 14\n");
+            return page.put_text(b"F 14\n");
         }
         let n = table.len;
         let m = received.len;
@@ -123,8 +107,7 @@ impl Answers for Cases {
             &payload[0..m],
             place(padding.value),
             place(room.value),
-            out,
-            at,
-        )
+            page,
+        );
     }
 }

@@ -1,7 +1,7 @@
 // The decode turn by turn, with a line for each reading.
 ghost use Rattle.std.specs.Prelude.{◌≡◌, Ok};
 ghost use mathlib.Core.List.{flat_map};
-ghost use Rattle.text.specs.Sheet.{Puts};
+ghost use Rattle.text.specs.Sheet.{PutsOn};
 ghost use Rattle.tables.specs.Table.{table_of};
 ghost use Rattle.tables.specs.Check.{check_of};
 ghost use Rattle.reading.specs.Steps.{handed};
@@ -9,39 +9,32 @@ ghost use Rattle.readcalls.specs.Lines.{reading_line};
 ghost use Rattle.readcalls.specs.Clauses.{Walks, Turns};
 
 use crate::answers::put_reading;
-use reading::{Answer, Decoded};
 use fields::DecodeRefusal;
-
-// What the turns came to, and the place after the readings' lines.
-#[derive(Clone, Copy)]
-pub(crate) struct Turned {
-    pub(crate) to: usize,
-    pub(crate) decoded: Decoded,
-}
+use reading::{Answer, Decoded};
+use text::Page;
 
 // The line of the reading that a turn hands out, if it does.
 #[tactic(auto, using(crate::proofs::Quiet::quiet))]
-fn put_turn(out: &mut [u8], at: usize, answer: Result<Answer, DecodeRefusal>) -> usize
-    ensures { Puts out.old at (flat_map reading_line (handed answer)) out.new result }
+fn put_turn(page: &mut Page<'_>, answer: Result<Answer, DecodeRefusal>)
+    ensures { PutsOn page.old (flat_map reading_line (handed answer)) page.new }
 {
     match answer {
-        Ok(Answer::Met(reading)) => put_reading(out, at, reading),
-        Ok(Answer::Skipped(_) | Answer::Moved | Answer::Ended) | Err(_) => at,
+        Ok(Answer::Met(reading)) => put_reading(page, reading),
+        Ok(Answer::Skipped(_) | Answer::Moved | Answer::Ended) | Err(_) => {}
     }
 }
 
 // The walk through the working payload s, by an accepted table.
-fn put_walk(words: &[u64], s: &[u8], room: usize, out: &mut [u8], at: usize) -> Turned
+fn put_walk(words: &[u64], s: &[u8], room: usize, page: &mut Page<'_>) -> Decoded
     requires { check_of (table_of words.now) ≡ Ok tt }
-    ensures { Walks result out.new words.now s.now room out.old at }
+    ensures { Walks result page.new words.now s.now room page.old }
 {
     let mut walk = reading::start();
-    let mut to = at;
     loop {
         let next = reading::next_field(words, s, room, walk);
-        to = put_turn(out, to, next.answer);
+        put_turn(page, next.answer);
         if let Some(decoded) = reading::came_to(next) {
-            return Turned { to, decoded };
+            return decoded;
         }
         walk = next.walk;
     }
@@ -53,22 +46,18 @@ pub(crate) fn put_turns(
     received: &[u8],
     padded: &mut [u8],
     room: usize,
-    out: &mut [u8],
-    at: usize,
-) -> Turned
-    ensures { Turns result padded.new out.new words.now received.now padded.old room out.old at }
+    page: &mut Page<'_>,
+) -> Decoded
+    ensures { Turns result padded.new page.new words.now received.now padded.old room page.old }
 {
     match reading::prepare(words, received, padded) {
         Ok(()) => {
             let s = reading::pad_to_min_length(words, received, padded);
-            put_walk(words, s, room, out, at)
+            put_walk(words, s, room, page)
         }
-        Err(refusal) => Turned {
-            to: at,
-            decoded: Decoded {
-                end: Err(refusal),
-                count: 0,
-            },
+        Err(refusal) => Decoded {
+            end: Err(refusal),
+            count: 0,
         },
     }
 }

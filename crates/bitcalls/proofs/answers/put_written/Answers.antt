@@ -1,5 +1,5 @@
-use Rattle.text.proofs.Sheets.{then}
+use Rattle.text.proofs.Putting.{then}
 use Rattle.bitcalls.proofs.answers.put_written.Goals as goal
 
 pub returns : goal.returns
-returns c = then c.put_moved-a.ensures (then c.put_text-b.ensures c.put_part.ensures)
+returns c = then c.put_moved.ensures (then c.put_text.ensures c.put_part.ensures)

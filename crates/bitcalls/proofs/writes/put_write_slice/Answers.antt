@@ -2,7 +2,7 @@
 use borrow.Author.Rules.{rules}
 use mathlib.Core.Path.{refl, sym, ◌∙◌}
 use borrow.Author.Tests.{not-true, not-false}
-use Rattle.text.proofs.Sheets.{same}
+use Rattle.text.proofs.Putting.{same}
 use Rattle.columns.proofs.Stored.{stored_bytes}
 use Rattle.bitcalls.specs.Text.{bytes_max}
 use Rattle.bitcalls.proofs.Values.{slice-bad, slice-other, slice}

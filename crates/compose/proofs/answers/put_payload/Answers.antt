@@ -4,7 +4,7 @@ use Prim.Native.Nat.{ℕ, ◌-◌}
 use native.Mathlib.Omega.{arith}
 use lib.ListN.{take}
 use Rattle.hexadecimal.specs.Digits.{digits_of}
-use Rattle.text.proofs.Sheets.{then, same}
+use Rattle.text.proofs.Putting.{then, same}
 use Rattle.frame_lines.specs.Lines.{pgn_text}
 use Rattle.compose.specs.Answers.{payload_text}
 use Rattle.compose.proofs.answers.put_payload.Goals as goal
@@ -16,4 +16,4 @@ framed pgn payload used e =
     ap (λ (s : List ℕ). pgn_text pgn ++ digits_of s) (e ∙ ap (λ (n : ℕ). take n payload) all)
 
 pub returns : goal.returns
-returns c = same (framed c.args.pgn c.args.payload.now c.args.used c.part.ensures) (then c.put_fixed_hex-a.ensures c.put_pairs.ensures)
+returns c = same (framed c.args.pgn c.args.payload.now c.args.used c.part.ensures) (then c.put_fixed_hex.ensures c.put_pairs.ensures)

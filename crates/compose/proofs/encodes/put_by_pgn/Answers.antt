@@ -1,6 +1,6 @@
 -- By whether the field is a PGN, which then has 24 bits.
 use native.Mathlib.Omega.{arith}
-use Rattle.text.proofs.Sheets.{same}
+use Rattle.text.proofs.Putting.{same}
 use Rattle.compose.proofs.Ordering.{pgn-small, by-pgn, no-pgn}
 use Rattle.compose.proofs.encodes.put_by_pgn.Goals as goal
 

@@ -1,6 +1,6 @@
 -- By whether WORDS and SIZE are good.
 use mathlib.Core.Path.{refl}
-use Rattle.text.proofs.Sheets.{same}
+use Rattle.text.proofs.Putting.{same}
 use Rattle.columns.proofs.Stored.{stored-words}
 use Rattle.compose.specs.Answers.{comma}
 use Rattle.compose.proofs.Ordering.{table-within, by-table, no_table}

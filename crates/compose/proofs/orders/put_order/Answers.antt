@@ -1,5 +1,5 @@
 -- By the first field.
-use Rattle.text.proofs.Sheets.{same}
+use Rattle.text.proofs.Putting.{same}
 use Rattle.compose.proofs.Ordering.{table-order, pgn-order}
 use Rattle.compose.proofs.orders.put_order.Goals as goal
 

@@ -12,7 +12,7 @@ use Rattle.reading.specs.declared.Next.{Next}
 use Rattle.reading.specs.declared.Progress.{Progress}
 use Rattle.reading.specs.Steps.{goes_on_lem, came_by, came_to_lem}
 use Rattle.reading.proofs.Looped.{leaves}
-use Rattle.text.proofs.Sheets.{same}
+use Rattle.text.proofs.Putting.{same}
 use Rattle.frame_lines.specs.Lines.{reading_line}
 use Rattle.frame_lines.proofs.Walked.{Printed, begins, goes, turn_lines, ends}
 use Rattle.frame_lines.proofs.decodes.put_walk.Goals as goal
@@ -33,23 +33,20 @@ loop-next-init c =
     let t = table_of c.args.words.now in
     let p = payload_of c.args.payload.now in (
       c.requires,
-      (refl, subst (λ (w : Walk). Printed reading_line t p c.args.room c.args.out.now c.args.at c.args.out.now c.args.at w) (sym c.start-walk.ensures) (begins reading_line t p c.args.room c.args.out.now c.args.at)),
+      subst (λ (w : Walk). Printed reading_line t p c.args.room c.args.page.now c.args.page.now w) (sym c.start-walk.ensures) (begins reading_line t p c.args.room c.args.page.now),
     )
 
 pub loop-next-smaller : goal.loop-next-smaller
-loop-next-smaller c = ((leaves _ _ _ c.loop-next.invariant.0 c.loop-next.invariant.1.1.going c.next_field-next.ensures).on (still-on c.next_field-next.result c.came_to.ensures c.is_some.ensures c.if-is_some.false)).less
+loop-next-smaller c = ((leaves _ _ _ c.loop-next.invariant.0 c.loop-next.invariant.1.going c.next_field-next.ensures).on (still-on c.next_field-next.result c.came_to.ensures c.is_some.ensures c.if-is_some.false)).less
 
 pub loop-next-preserved : goal.loop-next-preserved
 loop-next-preserved c =
     let on = still-on c.next_field-next.result c.came_to.ensures c.is_some.ensures c.if-is_some.false in (
       c.loop-next.invariant.0,
-      (
-        c.put_turn-to.auto.out ∙ c.loop-next.invariant.1.0,
-        goes reading_line _ _ _ c.loop-next.invariant.1.1 (leaves _ _ _ c.loop-next.invariant.0 c.loop-next.invariant.1.1.going c.next_field-next.ensures) on (same (turn_lines c.next_field-next.result.answer _ on) c.put_turn-to.ensures),
-      ),
+      goes reading_line _ _ _ c.loop-next.invariant.1 (leaves _ _ _ c.loop-next.invariant.0 c.loop-next.invariant.1.going c.next_field-next.ensures) on (same (turn_lines c.next_field-next.result.answer _ on) c.put_turn.ensures),
     )
 
 pub returns-then-is_some : goal.returns-then-is_some
 returns-then-is_some c =
     let last = still-on c.next_field-next.result c.came_to.ensures c.is_some.ensures c.if-is_some.true in
-    ends _ _ _ c.loop-next.invariant.1.1 (leaves _ _ _ c.loop-next.invariant.0 c.loop-next.invariant.1.1.going c.next_field-next.ensures) last c.put_turn-to.ensures
+    ends _ _ _ c.loop-next.invariant.1 (leaves _ _ _ c.loop-next.invariant.0 c.loop-next.invariant.1.going c.next_field-next.ensures) last c.put_turn.ensures

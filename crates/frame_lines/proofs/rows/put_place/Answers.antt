@@ -1,5 +1,5 @@
-use Rattle.text.proofs.Sheets.{then}
+use Rattle.text.proofs.Putting.{then}
 use Rattle.frame_lines.proofs.rows.put_place.Goals as goal
 
 pub returns : goal.returns
-returns c = then c.put_decimal-a.ensures (then c.put-c.ensures c.put_decimal.ensures)
+returns c = then c.put_decimal.ensures (then c.put.ensures c.put_decimal-2.ensures)

@@ -1,7 +1,7 @@
 use Rattle.frame_lines.specs.Lines.{reading_line}
-use Rattle.text.proofs.Sheets.{then}
+use Rattle.text.proofs.Putting.{then}
 use Rattle.frame_lines.proofs.rows.put_reading.Goals as goal
 
 pub returns : goal.returns
 unfolding reading_line
-returns c = then (then c.put_head-a.ensures c.put_raw-b.ensures) c.put.ensures
+returns c = then (then c.put_head.ensures c.put_raw.ensures) c.put.ensures

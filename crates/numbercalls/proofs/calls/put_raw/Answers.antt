@@ -1,7 +1,7 @@
 -- By what the VALUEKIND and the VALUE are.
 use Rattle.columns.specs.Parts.{parts_of}
 use borrow.Author.Tests.{not-false}
-use Rattle.text.proofs.Sheets.{same}
+use Rattle.text.proofs.Putting.{same}
 use Rattle.numbercalls.proofs.Texts.{no_kind, back}
 use Rattle.numbercalls.proofs.calls.put_raw.Goals as goal
 

@@ -1,6 +1,6 @@
 -- By what the RAW is.
 use borrow.Author.Tests.{not-false}
-use Rattle.text.proofs.Sheets.{same}
+use Rattle.text.proofs.Putting.{same}
 use Rattle.numbercalls.proofs.Texts.{scaled}
 use Rattle.numbercalls.proofs.calls.put_scale.Goals as goal
 

@@ -7,7 +7,7 @@ use Rattle.descriptor.specs.declared.PgnValue.{PgnValue}
 use Rattle.descriptor.specs.declared.PgnValue.TheVariants.{U64, U32, U16, U8, I64, I32, I16, I8, F64, F32, Bytes}
 use Rattle.numbers.specs.Words.{code_of}
 use Rattle.columns.specs.Parts.{space, parts_of}
-use Rattle.text.proofs.Sheets.{then, same}
+use Rattle.text.proofs.Putting.{then, same}
 use Rattle.readcalls.specs.Lines.{kind_text}
 use Rattle.readcalls.proofs.answers.put_kind.Goals as goal
 
@@ -38,4 +38,4 @@ name : (x : PgnValue) {n : ℕ} {s : List ℕ} → n ≡ code_of x → s ≡ get
 name x {n} e f = ap (λ (s : List ℕ). 32 ∷ s) (f ∙ ap (λ (ps : List (List ℕ)). get_or ps n []) spelled ∙ ap (λ (n : ℕ). get_or kinds n []) e) ∙ at_code x
 
 pub returns : goal.returns
-returns c = same (name c.args.value c.code_of-code.ensures c.word.ensures) (then c.put-a.ensures c.put_text.ensures)
+returns c = same (name c.args.value c.code_of-code.ensures c.word.ensures) (then c.put.ensures c.put_text.ensures)

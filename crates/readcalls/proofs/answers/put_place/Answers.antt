@@ -1,5 +1,5 @@
-use Rattle.text.proofs.Sheets.{then}
+use Rattle.text.proofs.Putting.{then}
 use Rattle.readcalls.proofs.answers.put_place.Goals as goal
 
 pub returns : goal.returns
-returns c = then c.put-a.ensures (then c.put_place-c.ensures c.put_encoding.ensures)
+returns c = then c.put.ensures (then c.put_place.ensures c.put_encoding.ensures)

@@ -5,7 +5,7 @@ use mathlib.Core.List.{List}
 use native.Mathlib.Omega.{arith}
 use lib.ListN.{length, take, drop}
 use Rattle.text.specs.Digits.{bytes_text}
-use Rattle.text.proofs.Sheets.{then, same}
+use Rattle.text.proofs.Putting.{then, same}
 use Rattle.readcalls.specs.Lines.{touched as touchedOf, run_line}
 use Rattle.readcalls.proofs.Touching.{take-touched}
 use Rattle.readcalls.proofs.answers.put_run.Goals as goal
@@ -15,4 +15,4 @@ touched-part run {n} e f = let all : n - 0 ≡ length (touchedOf run) = omega (a
 
 pub returns : goal.returns
 unfolding run_line
-returns c = then c.put_text-a.ensures (then (same (ap bytes_text (touched-part c.args.run.now c.touched.ensures c.part.ensures)) c.put_bytes-b.ensures) c.put.ensures)
+returns c = then c.put_text.ensures (then (same (ap bytes_text (touched-part c.args.run.now c.touched.ensures c.part.ensures)) c.put_bytes.ensures) c.put.ensures)

@@ -5,7 +5,7 @@ use Prim.Native.Nat.{ℕ, ◌+◌, ◌-◌, ◌≤◌}
 use native.Mathlib.Omega.{arith}
 use lib.ListN.{take, replicate, length-replicate, replicate-append-replicate}
 use lib.Seq.{take_at}
-use Rattle.text.proofs.Sheets.{same}
+use Rattle.text.proofs.Putting.{same}
 use Rattle.tables.specs.Table.{table_of}
 use Rattle.readcalls.specs.Lines.{untouched, decode_text}
 use Rattle.readcalls.proofs.replies.put_replay.Goals as goal

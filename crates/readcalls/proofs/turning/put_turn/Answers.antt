@@ -2,7 +2,7 @@
 use mathlib.Core.Path.{◌≡◌, sym, ap, ◌∙◌}
 use mathlib.Core.List.{append-nil, flat_map}
 use Rattle.std.specs.Prelude.{Result, Ok}
-use Rattle.text.proofs.Sheets.{same}
+use Rattle.text.proofs.Putting.{same}
 use Rattle.fields.specs.declared.DecodeRefusal.{DecodeRefusal}
 use Rattle.reading.specs.declared.Answer.{Answer}
 use Rattle.reading.specs.Steps.{handed}

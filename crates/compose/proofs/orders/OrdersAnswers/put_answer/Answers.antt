@@ -1,6 +1,6 @@
 -- By whether the values are listed.
 use borrow.Author.Tests.{not-true, not-false}
-use Rattle.text.proofs.Sheets.{same}
+use Rattle.text.proofs.Putting.{same}
 use Rattle.compose.proofs.Ordering.{not_listed, ordered}
 use borrow.Author.Rules.{rules}
 use Rattle.compose.proofs.orders.OrdersAnswers.put_answer.Goals as goal

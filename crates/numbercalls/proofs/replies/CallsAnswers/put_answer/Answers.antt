@@ -1,7 +1,7 @@
-use Rattle.text.proofs.Sheets.{then}
+use Rattle.text.proofs.Putting.{then}
 use Rattle.numbercalls.specs.Answers.{answered}
 use Rattle.numbercalls.proofs.replies.CallsAnswers.put_answer.Goals as goal
 
 pub returns : goal.returns
 unfolding answered
-returns c = then c.put_reply-to.ensures c.put.ensures
+returns c = then c.put_reply.ensures c.put.ensures

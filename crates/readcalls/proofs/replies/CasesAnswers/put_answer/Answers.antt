@@ -4,7 +4,7 @@ use mathlib.Core.Path.{◌≡◌, sym, ◌∙◌}
 use mathlib.Core.List.{List}
 use Prim.Native.Nat.{ℕ}
 use lib.ListN.{replicate}
-use Rattle.text.proofs.Sheets.{same}
+use Rattle.text.proofs.Putting.{same}
 use Rattle.columns.specs.Parts.{parts_of}
 use Rattle.columns.specs.Runs.{filled, bytes_in_lem, is_bytes, bytes_of, values_of, words_in, is_words}
 use Rattle.columns.specs.declared.Run.{Run}

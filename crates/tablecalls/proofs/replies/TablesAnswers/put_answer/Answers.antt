@@ -2,7 +2,7 @@
 use borrow.Author.Rules.{rules}
 use mathlib.Core.Path.{ap}
 use borrow.Author.Tests.{not-true, not-false}
-use Rattle.text.proofs.Sheets.{then, same}
+use Rattle.text.proofs.Putting.{then, same}
 use Rattle.tablecalls.specs.Answers.{checked_text}
 use Rattle.tablecalls.proofs.Words.{words-within, malformed, checked}
 use Rattle.tablecalls.proofs.replies.TablesAnswers.put_answer.Goals as goal
@@ -16,4 +16,4 @@ slice_bounds-check-end c = words-within _ _ c.words-run.ensures (search rules) (
 pub returns : goal.returns
 returns c =
     same (checked _ _ c.words-run.ensures (search rules) (not-false _ c.if-not-run.false))
-    (then (same (ap checked_text c.check.ensures) c.put_checked-to.ensures) c.put.ensures)
+    (then (same (ap checked_text c.check.ensures) c.put_checked.ensures) c.put.ensures)
