@@ -27,16 +27,14 @@ fn walked(words: &[u64], s: &[u8], room: usize) -> Decoded
 pub fn for_each_field(words: &[u64], received: &[u8], padded: &mut [u8], room: usize) -> Decoded
     ensures { Decodes result padded.new words.now received.now padded.old room }
 {
-    match filling::prepare(words, received, padded) {
-        Ok(()) => {
-            let s = filling::pad_to_min_length(words, received, padded);
-            walked(words, s, room)
-        }
-        Err(refusal) => Decoded {
+    if let Err(refusal) = filling::prepare(words, received, padded) {
+        return Decoded {
             end: Err(refusal),
             count: 0,
-        },
+        };
     }
+    let s = filling::pad_to_min_length(words, received, padded);
+    walked(words, s, room)
 }
 
 // With room for so many readings no decode gives 9.

@@ -29,12 +29,9 @@ pub fn noted_by(
 ) -> [u64; tables::SET_MAX]
     ensures { result ≡ noted_by_lem (table_of words.now) e i raw cs }
 {
-    match e {
-        Some(_) => cs,
-        None => match raw {
-            Some(r) => noted(words, i, r, cs),
-            None => cs,
-        },
+    match (e, raw) {
+        (None, Some(r)) => noted(words, i, r, cs),
+        _ => cs,
     }
 }
 
@@ -73,8 +70,7 @@ pub fn repeating_group_count(
     ensures { result ≡ group_count_of (table_of words.now) k counter_raw bits_remaining.0 }
 {
     let n = element_count(words, k, counter_raw, bits_remaining.0);
-    let set = tables::set_at(words, k);
-    let maximum = set.maximum;
+    let maximum = tables::set_at(words, k).maximum;
     if n <= maximum {
         return Ok(n);
     }
