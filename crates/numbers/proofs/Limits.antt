@@ -7,8 +7,8 @@ use lib.Dec.{ltb}
 use lib.IntN.{ℤ, pos, negsuc, nat_abs}
 use lib.Pow.{pow_mono}
 use lib.Signed.{lt_z}
-use lib.Ieee.{Float, nan, inf, fin, lt, up, down}
-use lib.Ieee.Scale.{finite}
+use lib.Ieee.{Float, nan, inf, fin, up, down}
+use Rattle.std.specs.Float.{float_is_finite}
 use Rattle.std.specs.Prelude.{Option, Some, None, Result, Err}
 use borrow.Author.Tests.{le-ltb}
 use Rattle.rounding.specs.declared.Truncated.{Truncated}
@@ -29,26 +29,15 @@ pub by_sign : (n : ℕ) (z : ℤ) → exactly_of n true (lt_z z (pos 0)) (nat_ab
 by_sign n (pos m) = ap (λ (b : Bool). exactly_of n true b m) (le-ltb m 0 (omega arith))
 by_sign n (negsuc m) = refl
 
--- a quotient that is finite, as the code tests it
-pub finite-above : (q : Float) → lt q (inf false) ≡ true → lt (inf true) q ≡ finite q
-unfolding lt
-finite-above nan h = absurd (false≢true h)
-finite-above (inf true) h = refl
-finite-above (inf false) h = absurd (false≢true h)
-finite-above (fin s m e) h = refl
-
-pub not-below : (q : Float) → lt q (inf false) ≡ false → false ≡ finite q
-unfolding lt
-not-below nan h = refl
-not-below (inf s) h = refl
-not-below (fin s m e) h = absurd (true≢false h)
-
-pub rounded-finite : (n : ℕ) (signed : Bool) (q : Float) → finite q ≡ true → cut_of n signed (half_away_of q) ≡ rounded_of n signed q
+-- a quotient that is finite, and one that is not
+pub rounded-finite : (n : ℕ) (signed : Bool) (q : Float) → float_is_finite q ≡ true → cut_of n signed (half_away_of q) ≡ rounded_of n signed q
+unfolding float_is_finite
 rounded-finite n signed nan h = absurd (false≢true h)
 rounded-finite n signed (inf s) h = absurd (false≢true h)
 rounded-finite n signed (fin s m e) h = refl
 
-pub rounded-infinite : (n : ℕ) (signed : Bool) (q : Float) → finite q ≡ false → Err OutOfRange ≡ rounded_of n signed q
+pub rounded-infinite : (n : ℕ) (signed : Bool) (q : Float) → float_is_finite q ≡ false → Err OutOfRange ≡ rounded_of n signed q
+unfolding float_is_finite
 rounded-infinite n signed nan h = refl
 rounded-infinite n signed (inf s) h = refl
 rounded-infinite n signed (fin s m e) h = absurd (true≢false h)

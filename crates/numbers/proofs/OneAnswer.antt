@@ -1,7 +1,7 @@
 -- Two answers allowed for an input are equal: of the contract of each public call as the source states it, `Post`.
 -- Assumes nothing.
 use Rattle.one_answer.proofs.Fixes.{Fixes, fixed}
-use Rattle.numbers.proofs.signs.sign_extend.Reads as sign-extend
+use Rattle.numbers.proofs.raws.sign_extend.Reads as sign-extend
 use Rattle.numbers.proofs.scale.scale_raw_field.Reads as scale-raw-field
 use Rattle.numbers.proofs.special.number_availability.Reads as number-availability
 use Rattle.numbers.proofs.special.counter_elements.Reads as counter-elements

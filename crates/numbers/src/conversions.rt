@@ -1,12 +1,12 @@
 // Which values a field takes, and the raw that it writes.
-ghost use Rattle.std.specs.Prelude.{◌≡◌, ◌≤◌};
-ghost use Rattle.std.specs.Float.Ieee as Ieee;
-ghost use Rattle.std.specs.Float.{binary32, binary64};
-ghost use Rattle.numbers.specs.Conversions.{to_f64_of, to_i64_of, to_u64_of, scaled_raw_of, signed_raw_of, unsigned_raw_of, float_raw_of, whole_raw_of, resolved_of, number_of, held_raw_of, raw_of_lem};
+ghost use Rattle.std.specs.Prelude.{◌≡◌};
+ghost use Rattle.numbers.specs.Conversions.{to_f64_of, to_i64_of, to_u64_of, scaled_raw_of, float_raw_of, whole_raw_of, resolved_of, held_raw_of, raw_of_lem};
 
+use crate::floats::widen;
 use crate::holding::holds_number;
-use crate::scale::{rule_of, widen};
-use crate::{NumberRefusal, ScaleRule, quantizing, signs};
+use crate::scale::rule_of;
+use crate::sizes::Width;
+use crate::{NumberRefusal, ScaleRule};
 use descriptor::{FieldDescriptor, PgnValue, Resolution};
 
 // Floats as they are, signed integers rounded.
@@ -46,32 +46,26 @@ pub fn pgn_value_to_u64(value: PgnValue) -> Option<u64>
     }
 }
 
-// A scaled field of n bits.
-fn scaled(resolution: f32, n: u32, signed: bool, value: PgnValue) -> Result<u64, NumberRefusal>
-    requires { n ≤ 64 }
-    ensures { result ≡ scaled_raw_of (to_f64_of value) resolution n signed }
-{
-    let x = pgn_value_to_f64(value).ok_or(NumberRefusal::WrongKind)?;
-    quantizing::quotient(x, resolution, n, signed)
-}
-
-// An unscaled field of n bits.
-fn whole(n: u32, signed: bool, value: PgnValue) -> Result<u64, NumberRefusal>
-    requires { n ≤ 64 }
-    ensures { result ≡ whole_raw_of n signed value }
-{
-    if signed {
-        let z = pgn_value_to_i64(value).ok_or(NumberRefusal::WrongKind)?;
-        return quantizing::signed_integer(n, z);
+impl Width {
+    // The raw of a value in a scaled field.
+    fn scaled(self, resolution: f32, value: PgnValue) -> Result<u64, NumberRefusal>
+        ensures { result ≡ scaled_raw_of (to_f64_of value) resolution self.bits self.signed }
+    {
+        let x = pgn_value_to_f64(value).ok_or(NumberRefusal::WrongKind)?;
+        self.quotient(x, resolution)
     }
-    let m = pgn_value_to_u64(value).ok_or(NumberRefusal::WrongKind)?;
-    quantizing::unsigned_integer(n, m)
-}
 
-fn float_bits(x: f32) -> u64
-    ensures { result ≡ Ieee.to_bits binary32 x }
-{
-    rounding::bits_of_f32(x) as u64
+    // The raw of a value in an unscaled field.
+    fn whole(self, value: PgnValue) -> Result<u64, NumberRefusal>
+        ensures { result ≡ whole_raw_of self.bits self.signed value }
+    {
+        if self.signed {
+            let z = pgn_value_to_i64(value).ok_or(NumberRefusal::WrongKind)?;
+            return self.exactly(z < 0, rounding::magnitude(z));
+        }
+        let m = pgn_value_to_u64(value).ok_or(NumberRefusal::WrongKind)?;
+        self.exactly(false, m)
+    }
 }
 
 fn float(value: PgnValue) -> Result<u64, NumberRefusal>
@@ -80,24 +74,21 @@ fn float(value: PgnValue) -> Result<u64, NumberRefusal>
     let PgnValue::F32(x) = value else {
         return Err(NumberRefusal::WrongKind);
     };
-    Ok(float_bits(x))
+    Ok(rounding::bits_of_f32(x) as u64)
 }
 
-// A field that may be scaled, signed or not where it is, and where it is not.
+// A field that may be scaled: its width where it is, and where it is not.
 fn resolved(
     resolution: Resolution,
-    n: u32,
-    signed: bool,
-    whole_signed: bool,
+    scaled: Width,
+    whole: Width,
     value: PgnValue,
 ) -> Result<u64, NumberRefusal>
-    requires { n ≤ 64 }
-    ensures { result ≡ resolved_of resolution n signed value (whole_raw_of n whole_signed value) }
+    ensures { result ≡ resolved_of resolution scaled.bits scaled.signed value (whole_raw_of whole.bits whole.signed value) }
 {
     match resolution {
-        Resolution::Unscaled => whole(n, whole_signed, value),
-        Resolution::Single(r) => scaled(r, n, signed, value),
-        Resolution::Double(r) => scaled(r, n, signed, value),
+        Resolution::Unscaled => whole.whole(value),
+        Resolution::Single(factor) | Resolution::Double(factor) => scaled.scaled(factor, value),
     }
 }
 
@@ -105,17 +96,16 @@ fn resolved(
 fn held_raw(f: FieldDescriptor, value: PgnValue) -> Result<u64, NumberRefusal>
     ensures { result ≡ held_raw_of f value }
 {
-    let n = signs::least(f.width, 64);
-    let kind = f.kind;
-    let resolution = f.resolution;
-    let signed = f.signed;
-    match rule_of(kind) {
-        ScaleRule::Plain => resolved(resolution, n, signed, signed, value),
-        ScaleRule::Counted => resolved(resolution, n, false, false, value),
-        ScaleRule::Lasting => resolved(resolution, n, signed, false, value),
-        ScaleRule::Clock => resolved(resolution, n, false, false, value),
+    let told = Width::new(f.width, f.signed);
+    let unsigned = Width::new(f.width, false);
+    match rule_of(f.kind) {
+        ScaleRule::Plain => resolved(f.resolution, told, told, value),
+        ScaleRule::Lasting => resolved(f.resolution, told, unsigned, value),
+        ScaleRule::Counted | ScaleRule::Clock => {
+            resolved(f.resolution, unsigned, unsigned, value)
+        }
         ScaleRule::Real => float(value),
-        ScaleRule::Flags => whole(n, false, value),
+        ScaleRule::Flags => unsigned.whole(value),
     }
 }
 

@@ -17,25 +17,15 @@ fn is_numeric(kind: FieldKind, width: u32) -> bool
     ensures { result ≡ is_numeric_lem kind width }
 {
     match kind {
-        FieldKind::Number => true,
-        FieldKind::Float => true,
-        FieldKind::Lookup => true,
-        FieldKind::IndirectLookup => true,
-        FieldKind::BitLookup => true,
-        FieldKind::Pgn => true,
-        FieldKind::Date => true,
-        FieldKind::Time => true,
-        FieldKind::Duration => true,
-        FieldKind::Mmsi => true,
-        FieldKind::Decimal => false,
-        FieldKind::StringFix => false,
-        FieldKind::StringLz => false,
-        FieldKind::StringLau => false,
         FieldKind::Binary => width % 8 != 0,
-        FieldKind::Reserved => false,
-        FieldKind::Spare => false,
-        FieldKind::IsoName => true,
-        FieldKind::Unimplemented => false,
+        FieldKind::Reserved
+        | FieldKind::Spare
+        | FieldKind::StringFix
+        | FieldKind::StringLz
+        | FieldKind::StringLau
+        | FieldKind::Decimal
+        | FieldKind::Unimplemented => false,
+        _ => true,
     }
 }
 

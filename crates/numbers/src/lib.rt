@@ -7,19 +7,21 @@
 #![tactic(auto)]
 
 mod conversions;
+mod floats;
 mod holding;
 mod quantizing;
+mod raws;
 mod refusals;
 mod scale;
-mod signs;
+mod sizes;
 mod special;
 mod words;
 
 pub use crate::conversions::{number_to_raw, pgn_value_to_f64, pgn_value_to_i64, pgn_value_to_u64};
 pub use crate::holding::holds_number;
 pub use crate::quantizing::quantize;
+pub use crate::raws::sign_extend;
 pub use crate::scale::scale_raw_field;
-pub use crate::signs::sign_extend;
 pub use crate::special::{counter_elements, number_availability};
 pub use crate::words::{code_of, number_words, silence_of, simple_words, word_of};
 

@@ -1,212 +1,162 @@
-// From a raw to its value.
-ghost use Rattle.std.specs.Prelude.{◌≡◌, ◌%◌, ◌^◌, ◌≤◌, ◌<◌, pos, true};
-ghost use Rattle.std.specs.Float.Ieee as Ieee;
-ghost use Rattle.std.specs.Float.{binary32, binary64};
-ghost use Rattle.numbers.specs.Signs.{meaning_of};
-ghost use Rattle.numbers.specs.Scaling.{unsigned_of, whole_of, duration_of, plain_of, counted_of, lasting_of, clock_of, product_of, rule_of_lem, scaled_of, scale_of};
+// From a raw to its value, or to the numbers that stand for the value: one walk over the rules.
+ghost use Rattle.std.specs.Prelude.{◌≡◌, ◌<◌, true};
+ghost use Rattle.descriptor.specs.declared.PgnValue.{PgnValue};
+ghost use Rattle.descriptor.specs.declared.PgnValue.TheVariants.{U64, F64, F32};
+ghost use Rattle.numbers.specs.Scaling.{unsigned_of, whole_of, duration_of, plain_of, counted_of, lasting_of, clock_of, rule_of_lem, scaled_of, scale_of};
 
-use crate::{ScaleRule, signs};
+use crate::ScaleRule;
+use crate::floats::float_of;
+use crate::raws::FieldRaw;
 use descriptor::{FieldDescriptor, FieldKind, PgnValue, Resolution};
 
 pub(crate) fn rule_of(kind: FieldKind) -> ScaleRule
     ensures { result ≡ rule_of_lem kind }
 {
     match kind {
-        FieldKind::Number => ScaleRule::Plain,
-        FieldKind::Float => ScaleRule::Real,
-        FieldKind::Lookup => ScaleRule::Plain,
-        FieldKind::IndirectLookup => ScaleRule::Plain,
-        FieldKind::BitLookup => ScaleRule::Flags,
-        FieldKind::Pgn => ScaleRule::Plain,
-        FieldKind::Date => ScaleRule::Counted,
-        FieldKind::Time => ScaleRule::Clock,
+        FieldKind::Number
+        | FieldKind::Lookup
+        | FieldKind::IndirectLookup
+        | FieldKind::Pgn
+        | FieldKind::IsoName => ScaleRule::Plain,
+        FieldKind::Date | FieldKind::Mmsi => ScaleRule::Counted,
         FieldKind::Duration => ScaleRule::Lasting,
-        FieldKind::Mmsi => ScaleRule::Counted,
-        FieldKind::Decimal => ScaleRule::Flags,
-        FieldKind::StringFix => ScaleRule::Flags,
-        FieldKind::StringLz => ScaleRule::Flags,
-        FieldKind::StringLau => ScaleRule::Flags,
-        FieldKind::Binary => ScaleRule::Flags,
-        FieldKind::Reserved => ScaleRule::Flags,
-        FieldKind::Spare => ScaleRule::Flags,
-        FieldKind::IsoName => ScaleRule::Plain,
-        FieldKind::Unimplemented => ScaleRule::Flags,
+        FieldKind::Time => ScaleRule::Clock,
+        FieldKind::Float => ScaleRule::Real,
+        _ => ScaleRule::Flags,
     }
 }
 
-// The unsigned kind that n bits fit.
-fn unsigned_value(n: u32, raw: u64) -> PgnValue
-    requires { raw < 2 ^ n }
-    ensures { result ≡ unsigned_of n raw }
-{
-    if n <= 8 {
-        let v = raw as u8;
-        return PgnValue::U8(v);
-    }
-    if n <= 16 {
-        let v = raw as u16;
-        return PgnValue::U16(v);
-    }
-    if n <= 32 {
-        let v = raw as u32;
-        return PgnValue::U32(v);
-    }
-    PgnValue::U64(raw)
+// What a raw is told as: its value, or what stands for the value.
+pub(crate) trait Told: Copy {
+    ghost told: { PgnValue → Self };
+
+    // By the unsigned kind that its bits fit.
+    fn unsigned(r: FieldRaw) -> Self
+        ensures { result ≡ told (unsigned_of r.bits r.raw) };
+
+    // By the signed one.
+    fn signed(r: FieldRaw) -> Self
+        ensures { result ≡ told (whole_of r.bits true r.raw) };
+
+    // A Duration starts at 16 bits.
+    fn duration(r: FieldRaw) -> Self
+        ensures { result ≡ told (duration_of r.bits r.raw) };
+
+    fn double_word(n: u64) -> Self
+        ensures { result ≡ told (U64 n) };
+
+    fn single(x: f32) -> Self
+        ensures { result ≡ told (F32 x) };
+
+    fn double(x: f64) -> Self
+        ensures { result ≡ told (F64 x) };
 }
 
-// The signed kind that n bits fit.
-fn signed_value(n: u32, raw: u64) -> PgnValue
-    requires { (n ≤ 64) × (raw < 2 ^ n) }
-    ensures { result ≡ whole_of n true raw }
-{
-    let z = signs::signed(raw, n);
-    if n <= 8 {
-        let v = z as i8;
-        return PgnValue::I8(v);
-    }
-    if n <= 16 {
-        let v = z as i16;
-        return PgnValue::I16(v);
-    }
-    if n <= 32 {
-        let v = z as i32;
-        return PgnValue::I32(v);
-    }
-    PgnValue::I64(z)
-}
+impl Told for PgnValue {
+    ghost told = { λ v. v };
 
-// A Duration starts at 16 bits.
-fn duration_value(n: u32, raw: u64) -> PgnValue
-    requires { raw < 2 ^ n }
-    ensures { result ≡ duration_of n raw }
-{
-    if n <= 16 {
-        let v = raw as u16;
-        return PgnValue::U16(v);
+    fn unsigned(r: FieldRaw) -> PgnValue {
+        match r.bits {
+            0..=8 => PgnValue::U8(r.raw as u8),
+            9..=16 => PgnValue::U16(r.raw as u16),
+            17..=32 => PgnValue::U32(r.raw as u32),
+            _ => PgnValue::U64(r.raw),
+        }
     }
-    if n <= 32 {
-        let v = raw as u32;
-        return PgnValue::U32(v);
-    }
-    PgnValue::U64(raw)
-}
 
-// An f32 as an f64: the same number, and a NaN for a NaN.
-pub(crate) fn widen(x: f32) -> f64
-    ensures { result ≡ x }
-{
-    if x != x {
-        return 0.0 / 0.0;
+    fn signed(r: FieldRaw) -> PgnValue {
+        let z = r.signed();
+        match r.bits {
+            0..=8 => PgnValue::I8(z as i8),
+            9..=16 => PgnValue::I16(z as i16),
+            17..=32 => PgnValue::I32(z as i32),
+            _ => PgnValue::I64(z),
+        }
     }
-    x as f64
-}
 
-// What a raw of n bits means, rounded to f32.
-pub(crate) fn to_f32(n: u32, signed: bool, raw: u64) -> f32
-    requires { (n ≤ 64) × (raw < 2 ^ n) }
-    ensures { result ≡ Ieee.of_int binary32 (meaning_of n signed raw) }
-{
-    if signed {
-        return rounding::nearest_i64_to_f32(signs::signed(raw, n));
+    fn duration(r: FieldRaw) -> PgnValue {
+        match r.bits {
+            0..=16 => PgnValue::U16(r.raw as u16),
+            17..=32 => PgnValue::U32(r.raw as u32),
+            _ => PgnValue::U64(r.raw),
+        }
     }
-    rounding::nearest_u64_to_f32(raw)
-}
 
-// What a raw of n bits means, rounded to f64.
-fn to_f64(n: u32, signed: bool, raw: u64) -> f64
-    requires { (n ≤ 64) × (raw < 2 ^ n) }
-    ensures { result ≡ Ieee.of_int binary64 (meaning_of n signed raw) }
-{
-    if signed {
-        return rounding::nearest_i64_to_f64(signs::signed(raw, n));
+    fn double_word(n: u64) -> PgnValue {
+        PgnValue::U64(n)
     }
-    rounding::nearest_u64_to_f64(raw)
-}
 
-// What a raw of n bits means times the resolution, in f64.
-pub(crate) fn product(n: u32, signed: bool, raw: u64, resolution: f32) -> f64
-    requires { (n ≤ 64) × (raw < 2 ^ n) }
-    ensures { result ≡ product_of (meaning_of n signed raw) resolution }
-{
-    to_f64(n, signed, raw) * widen(resolution)
+    fn single(x: f32) -> PgnValue {
+        PgnValue::F32(x)
+    }
+
+    fn double(x: f64) -> PgnValue {
+        PgnValue::F64(x)
+    }
 }
 
 // Number, Lookup, IndirectLookup, Pgn and IsoName.
-fn plain(resolution: Resolution, n: u32, signed: bool, raw: u64) -> PgnValue
-    requires { (n ≤ 64) × (raw < 2 ^ n) }
-    ensures { result ≡ plain_of resolution n signed raw }
+fn plain<T: Told>(resolution: Resolution, signed: bool, r: FieldRaw) -> T
+    ensures { result ≡ T.told (plain_of resolution r.bits signed r.raw) }
 {
     match resolution {
-        Resolution::Unscaled => {
-            if signed {
-                signed_value(n, raw)
-            } else {
-                unsigned_value(n, raw)
-            }
-        }
-        Resolution::Single(r) => PgnValue::F32(to_f32(n, signed, raw) * r),
-        Resolution::Double(r) => PgnValue::F64(product(n, signed, raw, r)),
+        Resolution::Unscaled => { if signed { T::signed(r) } else { T::unsigned(r) } }
+        Resolution::Single(factor) => T::single(r.to_f32(signed) * factor),
+        Resolution::Double(factor) => T::double(r.product(signed, factor)),
     }
 }
 
 // Date and Mmsi: unsigned, and narrowed after the product.
-fn counted(resolution: Resolution, n: u32, raw: u64) -> PgnValue
-    requires { (n ≤ 64) × (raw < 2 ^ n) }
-    ensures { result ≡ counted_of resolution n raw }
+fn counted<T: Told>(resolution: Resolution, r: FieldRaw) -> T
+    ensures { result ≡ T.told (counted_of resolution r.bits r.raw) }
 {
     match resolution {
-        Resolution::Unscaled => unsigned_value(n, raw),
-        Resolution::Single(r) => PgnValue::F32(rounding::narrow(product(n, false, raw, r))),
-        Resolution::Double(r) => PgnValue::F64(product(n, false, raw, r)),
+        Resolution::Unscaled => T::unsigned(r),
+        Resolution::Single(factor) => T::single(rounding::narrow(r.product(false, factor))),
+        Resolution::Double(factor) => T::double(r.product(false, factor)),
     }
 }
 
 // Duration: as Date, and signed where it is scaled.
-fn lasting(resolution: Resolution, n: u32, signed: bool, raw: u64) -> PgnValue
-    requires { (n ≤ 64) × (raw < 2 ^ n) }
-    ensures { result ≡ lasting_of resolution n signed raw }
+fn lasting<T: Told>(resolution: Resolution, signed: bool, r: FieldRaw) -> T
+    ensures { result ≡ T.told (lasting_of resolution r.bits signed r.raw) }
 {
     match resolution {
-        Resolution::Unscaled => duration_value(n, raw),
-        Resolution::Single(r) => PgnValue::F32(rounding::narrow(product(n, signed, raw, r))),
-        Resolution::Double(r) => PgnValue::F64(product(n, signed, raw, r)),
+        Resolution::Unscaled => T::duration(r),
+        Resolution::Single(factor) => T::single(rounding::narrow(r.product(signed, factor))),
+        Resolution::Double(factor) => T::double(r.product(signed, factor)),
     }
 }
 
 // Time: an f64 whatever the mark.
-fn clock(resolution: Resolution, n: u32, raw: u64) -> PgnValue
-    requires { (n ≤ 64) × (raw < 2 ^ n) }
-    ensures { result ≡ clock_of resolution raw }
+fn clock<T: Told>(resolution: Resolution, r: FieldRaw) -> T
+    ensures { result ≡ T.told (clock_of resolution r.raw) }
 {
     match resolution {
-        Resolution::Unscaled => PgnValue::U64(raw),
-        Resolution::Single(r) => PgnValue::F64(product(n, false, raw, r)),
-        Resolution::Double(r) => PgnValue::F64(product(n, false, raw, r)),
+        Resolution::Unscaled => T::double_word(r.raw),
+        Resolution::Single(factor) | Resolution::Double(factor) => {
+            T::double(r.product(false, factor))
+        }
     }
 }
 
-// The f32 with these bits.
-pub(crate) fn float_of(raw: u64) -> f32
-    ensures { result ≡ Ieee.of_bits binary32 (raw % 2 ^ 32) }
+// What a field's raw is told as.
+pub(crate) fn scaled<T: Told>(f: FieldDescriptor, r: FieldRaw) -> T
+    ensures { result ≡ T.told (scaled_of (rule_of_lem f.kind) f.resolution r.bits f.signed r.raw) }
 {
-    rounding::f32_of_bits((raw % 0x1_0000_0000) as u32)
+    match rule_of(f.kind) {
+        ScaleRule::Plain => plain(f.resolution, f.signed, r),
+        ScaleRule::Counted => counted(f.resolution, r),
+        ScaleRule::Lasting => lasting(f.resolution, f.signed, r),
+        ScaleRule::Clock => clock(f.resolution, r),
+        ScaleRule::Real => T::single(float_of(r.raw)),
+        ScaleRule::Flags => T::unsigned(r),
+    }
 }
 
 // The value of a raw: as many of its low bits as the field is wide, at most 64.
 pub fn scale_raw_field(raw: u64, f: FieldDescriptor) -> PgnValue
     ensures { result ≡ scale_of f raw }
 {
-    let n = signs::least(f.width, 64);
-    let r = signs::low_bits(raw, n);
-    let kind = f.kind;
-    let resolution = f.resolution;
-    let signed = f.signed;
-    match rule_of(kind) {
-        ScaleRule::Plain => plain(resolution, n, signed, r),
-        ScaleRule::Counted => counted(resolution, n, r),
-        ScaleRule::Lasting => lasting(resolution, n, signed, r),
-        ScaleRule::Clock => clock(resolution, n, r),
-        ScaleRule::Real => PgnValue::F32(float_of(r)),
-        ScaleRule::Flags => unsigned_value(n, r),
-    }
+    scaled(f, FieldRaw::new(raw, f.width))
 }

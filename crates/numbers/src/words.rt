@@ -1,15 +1,14 @@
 // Values as numbers: a code for the kind, 64 bits, and whether a raw says nothing.
-ghost use Rattle.std.specs.Prelude.{◌≡◌, true, ◌^◌, ◌≤◌, ◌<◌};
-ghost use Rattle.descriptor.specs.declared.PgnValue.TheVariants.{F64, F32};
-ghost use Rattle.numbers.specs.Signs.{signed_of};
-ghost use Rattle.numbers.specs.Scaling.{unsigned_of, whole_of, duration_of, plain_of, counted_of, lasting_of, clock_of};
-ghost use Rattle.numbers.specs.Words.{twos_of, code_of, word_of_lem, silence_of_lem, words_of, number_words_of, simple_words_of};
+ghost use Rattle.std.specs.Prelude.{◌≡◌};
+ghost use Rattle.numbers.specs.Scaling.{unsigned_of, duration_of};
+ghost use Rattle.numbers.specs.Words.{code_of, word_of_lem, silence_of_lem, words_of, number_words_of, simple_words_of};
 
-use crate::scale::{float_of, product, rule_of, to_f32};
-use crate::special::{availability, one_less, raw_availability};
-use crate::{NumberWords, ScaleRule, signs};
-use descriptor::{Availability, FieldDescriptor, PgnValue, Resolution};
-use halves::left;
+use crate::NumberWords;
+use crate::raws::FieldRaw;
+use crate::scale::{Told, scaled};
+use crate::sizes::Width;
+use crate::special::availability;
+use descriptor::{Availability, FieldDescriptor, PgnValue};
 
 pub fn code_of(value: PgnValue) -> u32
     ensures { result ≡ code_of value }
@@ -29,17 +28,6 @@ pub fn code_of(value: PgnValue) -> u32
     }
 }
 
-// A number in two's complement of 64 bits. 2^64 does not fit, so one comes off both sides.
-fn twos(z: i64) -> u64
-    ensures { result ≡ twos_of z }
-{
-    let size = rounding::magnitude(z);
-    if z >= 0 {
-        return size;
-    }
-    0xffff_ffff_ffff_ffff - (size - 1)
-}
-
 pub fn word_of(value: PgnValue) -> u64
     ensures { result ≡ word_of_lem value }
 {
@@ -48,10 +36,10 @@ pub fn word_of(value: PgnValue) -> u64
         PgnValue::U32(n) => n as u64,
         PgnValue::U16(n) => n as u64,
         PgnValue::U8(n) => n as u64,
-        PgnValue::I64(z) => twos(z),
-        PgnValue::I32(z) => twos(z as i64),
-        PgnValue::I16(z) => twos(z as i64),
-        PgnValue::I8(z) => twos(z as i64),
+        PgnValue::I64(z) => z.cast_unsigned(),
+        PgnValue::I32(z) => (z as i64).cast_unsigned(),
+        PgnValue::I16(z) => (z as i64).cast_unsigned(),
+        PgnValue::I8(z) => (z as i64).cast_unsigned(),
         PgnValue::F64(x) => rounding::bits_of_f64(x),
         PgnValue::F32(x) => rounding::bits_of_f32(x) as u64,
         PgnValue::Bytes(_) => 0,
@@ -67,164 +55,85 @@ pub fn silence_of(a: Availability) -> u64
     }
 }
 
-// From here on: what `scale_raw_field` says, with no value made in between.
-
-fn of_f32(x: f32, silence: u64) -> NumberWords
-    ensures { result ≡ words_of (F32 x) silence }
-{
-    let word = rounding::bits_of_f32(x) as u64;
-    NumberWords {
-        code: 10,
-        word,
-        silence,
-    }
-}
-
-fn of_f64(x: f64, silence: u64) -> NumberWords
-    ensures { result ≡ words_of (F64 x) silence }
-{
-    let word = rounding::bits_of_f64(x);
-    NumberWords {
-        code: 9,
-        word,
-        silence,
-    }
-}
-
 // The code of the unsigned kind that n bits fit.
 fn size_code(n: u32) -> u64
     ensures { result ≡ code_of (unsigned_of n 0) }
 {
-    if n <= 8 {
-        return 4;
+    match n {
+        0..=8 => 4,
+        9..=16 => 3,
+        17..=32 => 2,
+        _ => 1,
     }
-    if n <= 16 {
-        return 3;
-    }
-    if n <= 32 {
-        return 2;
-    }
-    1
 }
 
 // A Duration starts at 16 bits.
 fn duration_code(n: u32) -> u64
     ensures { result ≡ code_of (duration_of n 0) }
 {
-    if n <= 16 {
-        return 3;
-    }
-    if n <= 32 {
-        return 2;
-    }
-    1
-}
-
-// What a raw of n bits means in a signed field, in two's complement of 64 bits: with its top bit set
-// it lacks 2^64 - 2^n, and neither of the two fits.
-fn extended(raw: u64, n: u32) -> u64
-    requires { (n ≤ 64) × (raw < 2 ^ n) }
-    ensures { result ≡ twos_of (signed_of n raw) }
-{
-    let half = left(1, one_less(n) as usize);
-    if raw < half {
-        return raw;
-    }
-    0xffff_ffff_ffff_ffff - (half - 1 - (raw - half))
-}
-
-fn unsigned_words(n: u32, raw: u64, silence: u64) -> NumberWords
-    ensures { result ≡ words_of (unsigned_of n raw) silence }
-{
-    let code = size_code(n);
-    NumberWords {
-        code,
-        word: raw,
-        silence,
+    match n {
+        0..=16 => 3,
+        17..=32 => 2,
+        _ => 1,
     }
 }
 
-fn signed_words(n: u32, raw: u64, silence: u64) -> NumberWords
-    requires { (n ≤ 64) × (raw < 2 ^ n) }
-    ensures { result ≡ words_of (whole_of n true raw) silence }
-{
-    let code = size_code(n) + 4;
-    let word = extended(raw, n);
-    NumberWords {
-        code,
-        word,
-        silence,
-    }
-}
+// The words of a value, with no value made in between: what says nothing is told after.
+impl Told for NumberWords {
+    ghost told = { λ v. words_of v 0 };
 
-fn duration_words(n: u32, raw: u64, silence: u64) -> NumberWords
-    ensures { result ≡ words_of (duration_of n raw) silence }
-{
-    let code = duration_code(n);
-    NumberWords {
-        code,
-        word: raw,
-        silence,
+    fn unsigned(r: FieldRaw) -> NumberWords {
+        unsigned_words(r.bits, r.raw)
     }
-}
 
-fn plain_words(resolution: Resolution, n: u32, signed: bool, raw: u64, silence: u64) -> NumberWords
-    requires { (n ≤ 64) × (raw < 2 ^ n) }
-    ensures { result ≡ words_of (plain_of resolution n signed raw) silence }
-{
-    match resolution {
-        Resolution::Unscaled => {
-            if signed {
-                signed_words(n, raw, silence)
-            } else {
-                unsigned_words(n, raw, silence)
-            }
+    fn signed(r: FieldRaw) -> NumberWords {
+        NumberWords {
+            code: size_code(r.bits) + 4,
+            word: r.signed().cast_unsigned(),
+            silence: 0,
         }
-        Resolution::Single(r) => of_f32(to_f32(n, signed, raw) * r, silence),
-        Resolution::Double(r) => of_f64(product(n, signed, raw, r), silence),
     }
-}
 
-fn counted_words(resolution: Resolution, n: u32, raw: u64, silence: u64) -> NumberWords
-    requires { (n ≤ 64) × (raw < 2 ^ n) }
-    ensures { result ≡ words_of (counted_of resolution n raw) silence }
-{
-    match resolution {
-        Resolution::Unscaled => unsigned_words(n, raw, silence),
-        Resolution::Single(r) => of_f32(rounding::narrow(product(n, false, raw, r)), silence),
-        Resolution::Double(r) => of_f64(product(n, false, raw, r), silence),
+    fn duration(r: FieldRaw) -> NumberWords {
+        NumberWords {
+            code: duration_code(r.bits),
+            word: r.raw,
+            silence: 0,
+        }
     }
-}
 
-fn lasting_words(
-    resolution: Resolution,
-    n: u32,
-    signed: bool,
-    raw: u64,
-    silence: u64,
-) -> NumberWords
-    requires { (n ≤ 64) × (raw < 2 ^ n) }
-    ensures { result ≡ words_of (lasting_of resolution n signed raw) silence }
-{
-    match resolution {
-        Resolution::Unscaled => duration_words(n, raw, silence),
-        Resolution::Single(r) => of_f32(rounding::narrow(product(n, signed, raw, r)), silence),
-        Resolution::Double(r) => of_f64(product(n, signed, raw, r), silence),
-    }
-}
-
-fn clock_words(resolution: Resolution, n: u32, raw: u64, silence: u64) -> NumberWords
-    requires { (n ≤ 64) × (raw < 2 ^ n) }
-    ensures { result ≡ words_of (clock_of resolution raw) silence }
-{
-    match resolution {
-        Resolution::Unscaled => NumberWords {
+    fn double_word(n: u64) -> NumberWords {
+        NumberWords {
             code: 1,
-            word: raw,
-            silence,
-        },
-        Resolution::Single(r) => of_f64(product(n, false, raw, r), silence),
-        Resolution::Double(r) => of_f64(product(n, false, raw, r), silence),
+            word: n,
+            silence: 0,
+        }
+    }
+
+    fn single(x: f32) -> NumberWords {
+        NumberWords {
+            code: 10,
+            word: rounding::bits_of_f32(x) as u64,
+            silence: 0,
+        }
+    }
+
+    fn double(x: f64) -> NumberWords {
+        NumberWords {
+            code: 9,
+            word: rounding::bits_of_f64(x),
+            silence: 0,
+        }
+    }
+}
+
+fn unsigned_words(n: u32, raw: u64) -> NumberWords
+    ensures { result ≡ words_of (unsigned_of n raw) 0 }
+{
+    NumberWords {
+        code: size_code(n),
+        word: raw,
+        silence: 0,
     }
 }
 
@@ -233,19 +142,11 @@ fn clock_words(resolution: Resolution, n: u32, raw: u64, silence: u64) -> Number
 pub fn number_words(raw: u64, f: FieldDescriptor) -> NumberWords
     ensures { result ≡ number_words_of f raw }
 {
-    let n = signs::least(f.width, 64);
-    let r = signs::low_bits(raw, n);
-    let kind = f.kind;
-    let resolution = f.resolution;
-    let signed = f.signed;
-    let silence = silence_of(availability(kind, n, signed, r));
-    match rule_of(kind) {
-        ScaleRule::Plain => plain_words(resolution, n, signed, r, silence),
-        ScaleRule::Counted => counted_words(resolution, n, r, silence),
-        ScaleRule::Lasting => lasting_words(resolution, n, signed, r, silence),
-        ScaleRule::Clock => clock_words(resolution, n, r, silence),
-        ScaleRule::Real => of_f32(float_of(r), silence),
-        ScaleRule::Flags => unsigned_words(n, r, silence),
+    let r = FieldRaw::new(raw, f.width);
+    let words: NumberWords = scaled(f, r);
+    NumberWords {
+        silence: silence_of(availability(f.kind, f.signed, r)),
+        ..words
     }
 }
 
@@ -253,7 +154,8 @@ pub fn number_words(raw: u64, f: FieldDescriptor) -> NumberWords
 pub fn simple_words(n: u32, raw: u64) -> NumberWords
     ensures { result ≡ simple_words_of n raw }
 {
-    let bits = signs::least(n, 64);
-    let silence = silence_of(raw_availability(bits, false, raw));
-    unsigned_words(n, raw, silence)
+    NumberWords {
+        silence: silence_of(Width::new(n, false).availability(raw)),
+        ..unsigned_words(n, raw)
+    }
 }

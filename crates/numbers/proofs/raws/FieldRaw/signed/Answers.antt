@@ -6,7 +6,7 @@ use lib.IntN.{negsuc}
 use mir.Syntax.{w64}
 use mir.ValLaws.{to_z-of_z}
 use Rattle.numbers.proofs.Widths.{double, half, half_le, set}
-use Rattle.numbers.proofs.signs.signed.Goals as goal
+use Rattle.numbers.proofs.raws.FieldRaw.signed.Goals as goal
 
 -- what is known where the raw is not below the half
 record Upper (n raw h : ℕ) : Type 0 where
@@ -24,12 +24,12 @@ upper {n} {raw} fit some is from =
 
 pub overflow_sub-half-2 : goal.overflow_sub-half-2
 overflow_sub-half-2 c =
-    let u = upper c.requires c.if-n-eq0.false c.left-half.ensures c.if-raw-half.false in
+    let u = upper (c.args.self.within, c.args.self.fits) c.if-self-eq0.false c.left-half.ensures c.if-self-half.false in
     omega arith
 
 pub returns : goal.returns
 returns c =
-    let u = upper c.requires c.if-n-eq0.false c.left-half.ensures c.if-raw-half.false in
-    let d : 2 ^ c.args.n - suc c.args.raw ≡ c.left-half.result - 1 - (c.args.raw - c.left-half.result) = omega arith in
+    let u = upper (c.args.self.within, c.args.self.fits) c.if-self-eq0.false c.left-half.ensures c.if-self-half.false in
+    let d : 2 ^ c.args.self.bits - suc c.args.self.raw ≡ c.left-half.result - 1 - (c.args.self.raw - c.left-half.result) = omega arith in
     to_z-of_z w64 c.below_zero.result (record { sfits = c.below_zero.type_inv })
-    ∙ c.below_zero.ensures ∙ ap negsuc (sym d) ∙ sym (set c.args.n c.args.raw u.from u.to)
+    ∙ c.below_zero.ensures ∙ ap negsuc (sym d) ∙ sym (set c.args.self.bits c.args.self.raw u.from u.to)

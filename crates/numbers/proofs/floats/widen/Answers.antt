@@ -7,7 +7,7 @@ use lib.Ieee.Fits.{fits_widens, and_i}
 use denote.Floats.{passes}
 use Rattle.rounding.proofs.Fields.{is_number}
 use Rattle.rounding.proofs.Nans.{nan64}
-use Rattle.numbers.proofs.scale.widen.Goals as goal
+use Rattle.numbers.proofs.floats.widen.Goals as goal
 
 pub returns-then-x : goal.returns-then-x
 returns-then-x c = nan64 ∙ sym (differs_from_itself c.args.x (passes (ne c.args.x c.args.x) c.if-x.true))

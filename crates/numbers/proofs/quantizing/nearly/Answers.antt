@@ -1,9 +1,0 @@
--- By the tests.
-use mathlib.Core.Path.{sym, subst}
-use Prim.Native.Nat.{ℕ, ◌^◌, ◌≤◌}
-use native.Mathlib.Omega.{arith}
-use Rattle.numbers.proofs.Limits.{limit-le}
-use Rattle.numbers.proofs.quantizing.nearly.Goals as goal
-
-pub complement-requires : goal.complement-requires
-complement-requires c = (c.requires, (let e : c.limit_of-limit.result ≤ 2 ^ c.args.n = subst (λ (x : ℕ). x ≤ 2 ^ c.args.n) (sym c.limit_of-limit.ensures) (limit-le c.args.n c.args.signed c.args.negative) in omega arith))
