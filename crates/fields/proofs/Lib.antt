@@ -1,7 +1,5 @@
 -- how numbers, gaps, texts and bytes are read once the bit calls have said what room there is
 pub mod Spelled
--- a value that is no text is not made unavailable by the rule for texts
-pub mod Says
 -- a field that can be read lies in the payload
 pub mod Inside
 -- lists filled up with one value, and a list stored at the front of another

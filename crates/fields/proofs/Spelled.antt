@@ -9,7 +9,7 @@ use borrow.Author.Tests.{le-ltb, lt-ltb}
 use Rattle.bits.specs.declared.BitRefusal.{BitRefusal}
 use Rattle.bits.specs.declared.Read.{Read}
 use Rattle.std.specs.Prelude.{Some, None, Result, Ok, Err, ⊤}
-use Rattle.bits.specs.Bits.{pick, bits_at}
+use Rattle.bits.specs.Bits.{pick}
 use Rattle.bits.specs.Calls.{bits, cursor_at, read_in, advance_in}
 use Rattle.bits.specs.declared.Cursor.{Cursor}
 use Rattle.descriptor.specs.declared.FieldDescriptor.{FieldDescriptor}
@@ -24,20 +24,6 @@ use Rattle.fields.specs.declared.FieldRead.TheVariants as read
 use Rattle.fields.specs.Payload.{Payload, payload_of, bits_left}
 use Rattle.fields.specs.Taken.{if_room_lem, if_length, short_of, room_at, text_room_lem, fixed_bytes_lem, lau_taken, closed_at_lem, lz_taken}
 use Rattle.fields.specs.Content.{text_at_lem, text_read_lem, refused_of, read_over}
-
-eighth : (n : ℕ) → 8 * n / 8 ≡ n
-eighth n = omega arith
-
--- a StringFix, and a Binary of whole bytes
-pub fixed-text : (r : Result ⊤ BitRefusal) (f : FieldDescriptor) (p : Payload) (i at n : ℕ)
-    → text_read_lem r i (8 * n) (at / 8) n None ≡ read_over (if_room_lem r i (Ok (8 * n))) shape.Fixed f p at
-fixed-text (Ok u) f p i at n = ap (λ (k : ℕ). Ok (read.Got (bits (8 * n)) None (text_at_lem (at / 8) k None))) (sym (eighth n))
-fixed-text (Err e) f p i at n = refl
-
-pub whole-text : (r : Result ⊤ BitRefusal) (f : FieldDescriptor) (p : Payload) (i at n : ℕ)
-    → text_read_lem r i (8 * n) (at / 8) n None ≡ read_over (if_room_lem r i (Ok (8 * n))) shape.Whole f p at
-whole-text (Ok u) f p i at n = ap (λ (k : ℕ). Ok (read.Got (bits (8 * n)) None (text_at_lem (at / 8) k None))) (sym (eighth n))
-whole-text (Err e) f p i at n = refl
 
 -- a StringFix takes at most its size
 min-le : (a b : ℕ) → min a b ≤ a
@@ -97,18 +83,6 @@ module _ (f : FieldDescriptor) (s : List ℕ) (i at len : ℕ) where
 
   pub lau-text : len ≤ payload_max → 2 ≤ len → lau_says (read_in (room_at p (at + 8) 8) s (cursor_at (at + 8)) 8) ≡ read_over (lau_taken p i at len) shape.Lau f p at
   lau-text l m = lau-says (room_at p (at + 8) 8) ∙ ap (λ (t : Result ℕ DecodeRefusal). read_over t shape.Lau f p at) (lau-more m ∙ short-enough i len _ l)
-
--- ## Length bytes
-
-module _ (f : FieldDescriptor) (s : List ℕ) (i at : ℕ) (sh : Shape) (after : ℕ → Result ℕ DecodeRefusal) where
-  -- the length byte as it was read, and what follows it
-  abbrev pub length_says : Result (Read ℕ) BitRefusal → Result FieldRead DecodeRefusal
-  length_says (Ok a) = read_over (after a.value) sh f (payload_of s) at
-  length_says (Err e) = refused_of i e
-
-  pub length-says : (r : Result ⊤ BitRefusal) → length_says (read_in r s (cursor_at at) 8) ≡ read_over (if_room_lem r i (after (bits_at s at 8))) sh f (payload_of s) at
-  length-says (Ok u) = refl
-  length-says (Err e) = refl
 
 -- ## StringLz
 

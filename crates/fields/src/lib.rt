@@ -8,7 +8,7 @@
 #![tactic(auto)]
 
 use bits::{BitPos, BitRefusal, ByteCount};
-use descriptor::PgnValue;
+use descriptor::{FieldDescriptor, PgnValue};
 use tables::TableRule;
 
 mod availability;
@@ -85,4 +85,14 @@ pub enum FieldRead {
     Skipped {
         bits: BitPos,
     },
+}
+
+// A field where it is met: field i of the table, `early` if it may stop early, and the bit that it
+// starts at.
+#[derive(Clone, Copy)]
+pub(crate) struct FieldAt {
+    f: FieldDescriptor,
+    i: usize,
+    early: bool,
+    at: usize,
 }

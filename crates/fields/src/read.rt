@@ -1,65 +1,65 @@
 // One field at a place: `read_field_raw_and_value`.
 ghost use Rattle.std.specs.Prelude.{◌≡◌, length};
+ghost use Rattle.bits.specs.Calls.{cursor_at};
 ghost use Rattle.fields.specs.Payload.{payload_of};
+ghost use Rattle.fields.specs.declared.DecodeRefusal.TheVariants.{BitReaderError};
 ghost use Rattle.fields.specs.declared.Shape.TheVariants as shape;
 ghost use Rattle.fields.specs.Taken.{taken_by};
 ghost use Rattle.fields.specs.Content.{read_over, field_read_of};
 
-use crate::{DecodeRefusal, FieldRead, Shape, shapes, texts};
-use bits::{BitPos, Cursor};
+use crate::{DecodeRefusal, FieldAt, FieldRead, Shape, shapes};
+use bits::{BitPos, BitRefusal, Cursor};
 use descriptor::FieldDescriptor;
 
-// A number; 4 where it is strict and cut short.
-fn number(
-    s: &[u8],
-    strict: bool,
-    f: FieldDescriptor,
-    i: usize,
-    early: bool,
-    at: usize,
-) -> Result<FieldRead, DecodeRefusal>
-    ensures { result ≡ read_over (taken_by (shape.Number strict) (payload_of s.now) i early f.width at) (shape.Number strict) f (payload_of s.now) at }
-{
-    let width = f.width;
-    let c = Cursor { at: BitPos(at) };
-    match c.read_u64(s, width) {
-        Ok(read) => {
-            let taken = width as usize;
-            Ok(FieldRead::Got {
-                bits: BitPos(taken),
-                raw: Some(read.value),
-                value: numbers::scale_raw_field(read.value, f),
-            })
-        }
-        Err(e) => {
-            if strict {
-                return Err(DecodeRefusal::InvalidDataLength { field: i });
-            }
-            texts::refused(i, e)
+impl FieldAt {
+    pub(crate) fn cursor(self) -> Cursor
+        ensures { result ≡ cursor_at self.at }
+    {
+        Cursor {
+            at: BitPos(self.at),
         }
     }
-}
 
-// Bits that are skipped.
-fn gap(
-    s: &[u8],
-    f: FieldDescriptor,
-    i: usize,
-    early: bool,
-    at: usize,
-) -> Result<FieldRead, DecodeRefusal>
-    ensures { result ≡ read_over (taken_by shape.Gap (payload_of s.now) i early f.width at) shape.Gap f (payload_of s.now) at }
-{
-    let width = f.width;
-    let c = Cursor { at: BitPos(at) };
-    match c.advance(s, width) {
-        Ok(_) => {
-            let taken = width as usize;
-            Ok(FieldRead::Skipped {
-                bits: BitPos(taken),
-            })
+    // What a bit call refused.
+    pub(crate) fn refused(self, refusal: BitRefusal) -> DecodeRefusal
+        ensures { result ≡ BitReaderError self.i refusal }
+    {
+        DecodeRefusal::BitReaderError {
+            field: self.i,
+            refusal,
         }
-        Err(e) => texts::refused(i, e),
+    }
+
+    // A number; 4 where it is strict and cut short.
+    fn number(self, s: &[u8], strict: bool) -> Result<FieldRead, DecodeRefusal>
+        ensures { result ≡ read_over (taken_by (shape.Number strict) (payload_of s.now) self.i self.early self.f.width self.at) (shape.Number strict) self.f (payload_of s.now) self.at }
+    {
+        let width = self.f.width;
+        let read = self.cursor().read_u64(s, width).map_err(|refusal| {
+            if strict {
+                DecodeRefusal::InvalidDataLength { field: self.i }
+            } else {
+                self.refused(refusal)
+            }
+        })?;
+        Ok(FieldRead::Got {
+            bits: BitPos(width as usize),
+            raw: Some(read.value),
+            value: numbers::scale_raw_field(read.value, self.f),
+        })
+    }
+
+    // Bits that are skipped.
+    fn gap(self, s: &[u8]) -> Result<FieldRead, DecodeRefusal>
+        ensures { result ≡ read_over (taken_by shape.Gap (payload_of s.now) self.i self.early self.f.width self.at) shape.Gap self.f (payload_of s.now) self.at }
+    {
+        let width = self.f.width;
+        self.cursor()
+            .advance(s, width)
+            .map_err(|refusal| self.refused(refusal))?;
+        Ok(FieldRead::Skipped {
+            bits: BitPos(width as usize),
+        })
     }
 }
 
@@ -74,13 +74,18 @@ pub fn read_field_raw_and_value(
 ) -> Result<FieldRead, DecodeRefusal>
     ensures { result ≡ field_read_of (payload_of s.now) f i may_stop_early c.at.0 }
 {
-    let at = c.at.0;
+    let field = FieldAt {
+        f,
+        i,
+        early: may_stop_early,
+        at: c.at.0,
+    };
     match shapes::shape_of(f) {
-        Shape::Number { strict } => number(s, strict, f, i, may_stop_early, at),
-        Shape::Gap => gap(s, f, i, may_stop_early, at),
-        Shape::Fixed => texts::fixed(s, f, i, may_stop_early, at),
-        Shape::Whole => texts::whole(s, f, i, may_stop_early, at),
-        Shape::Lau => texts::lau(s, f, i, may_stop_early, at),
-        Shape::Lz => texts::lz(s, f, i, may_stop_early, at),
+        Shape::Number { strict } => field.number(s, strict),
+        Shape::Gap => field.gap(s),
+        Shape::Fixed => field.fixed(s),
+        Shape::Whole => field.whole(s),
+        Shape::Lau => field.lau(s),
+        Shape::Lz => field.lz(s),
     }
 }

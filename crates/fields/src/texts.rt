@@ -6,9 +6,9 @@ ghost use Rattle.fields.specs.Taken.{bytes_room_lem, text_room_lem, fixed_bytes_
 ghost use Rattle.fields.specs.Content.{text_at_lem, text_read_lem, refused_of, read_over};
 ghost use Rattle.fields.specs.declared.Shape.TheVariants as shape;
 
-use crate::{DecodeRefusal, FieldRead};
-use bits::{BitPos, BitRefusal, ByteCount, Cursor, least};
-use descriptor::{FieldDescriptor, PgnBytes, PgnValue};
+use crate::{DecodeRefusal, FieldAt, FieldRead};
+use bits::{BitPos, BitRefusal, ByteCount, Cursor};
+use descriptor::{PgnBytes, PgnValue};
 
 // A StringFix over so many bytes may stop early where it is the last field.
 const FIXED_MAX: usize = 32;
@@ -36,138 +36,12 @@ fn text_room(s: &[u8], at: usize, n: usize) -> Result<(), BitRefusal>
 fn text_at(place: usize, n: usize, encoding: Option<u8>) -> PgnValue
     ensures { result ≡ text_at_lem place n encoding }
 {
-    if n == 0 {
-        return PgnValue::Bytes(PgnBytes {
-            start: ByteCount(0),
-            len: ByteCount(n),
-            encoding,
-        });
-    }
+    let start = if n == 0 { 0 } else { place };
     PgnValue::Bytes(PgnBytes {
-        start: ByteCount(place),
+        start: ByteCount(start),
         len: ByteCount(n),
         encoding,
     })
-}
-
-// The n bytes at a place, of a field that takes so many bits, if there is room for them.
-fn text_read(
-    room: Result<(), BitRefusal>,
-    i: usize,
-    taken: usize,
-    place: usize,
-    n: usize,
-    encoding: Option<u8>,
-) -> Result<FieldRead, DecodeRefusal>
-    ensures { result ≡ text_read_lem room i taken place n encoding }
-{
-    match room {
-        Ok(()) => Ok(FieldRead::Got {
-            bits: BitPos(taken),
-            raw: None,
-            value: text_at(place, n, encoding),
-        }),
-        Err(e) => refused(i, e),
-    }
-}
-
-pub(crate) fn refused(i: usize, e: BitRefusal) -> Result<FieldRead, DecodeRefusal>
-    ensures { result ≡ refused_of i e }
-{
-    Err(DecodeRefusal::BitReaderError {
-        field: i,
-        refusal: e,
-    })
-}
-
-// How many bytes a StringFix of w bits takes.
-fn fixed_bytes(s: &[u8], early: bool, at: usize, w: usize) -> usize
-    ensures { result ≡ fixed_bytes_lem (payload_of s.now) early at w }
-{
-    let size = w / 8;
-    if early {
-        if FIXED_MAX < size {
-            let c = Cursor { at: BitPos(at) };
-            let left = c.bits_remaining(s);
-            return least(size, left.0 / 8);
-        }
-        return size;
-    }
-    size
-}
-
-pub(crate) fn fixed(
-    s: &[u8],
-    f: FieldDescriptor,
-    i: usize,
-    early: bool,
-    at: usize,
-) -> Result<FieldRead, DecodeRefusal>
-    ensures { result ≡ read_over (taken_by shape.Fixed (payload_of s.now) i early f.width at) shape.Fixed f (payload_of s.now) at }
-{
-    let w = f.width as usize;
-    let n = fixed_bytes(s, early, at, w);
-    let room = bytes_room(s, at, n);
-    text_read(room, i, 8 * n, at / 8, n, None)
-}
-
-pub(crate) fn whole(
-    s: &[u8],
-    f: FieldDescriptor,
-    i: usize,
-    early: bool,
-    at: usize,
-) -> Result<FieldRead, DecodeRefusal>
-    ensures { result ≡ read_over (taken_by shape.Whole (payload_of s.now) i early f.width at) shape.Whole f (payload_of s.now) at }
-{
-    let w = f.width as usize;
-    let n = w / 8;
-    let room = bytes_room(s, at, n);
-    text_read(room, i, 8 * n, at / 8, n, None)
-}
-
-// A StringLau with its length byte.
-fn lau_text(
-    s: &[u8],
-    f: FieldDescriptor,
-    i: usize,
-    at: usize,
-    len: usize,
-) -> Result<FieldRead, DecodeRefusal>
-    requires { at ≤ 524288 }
-    ensures { result ≡ read_over (lau_taken (payload_of s.now) i at len) shape.Lau f (payload_of s.now) at }
-{
-    if tables::PAYLOAD_MAX < len {
-        return Err(DecodeRefusal::InvalidDataLength { field: i });
-    }
-    if len < 2 {
-        return text_read(Ok(()), i, 8, 0, 0, None);
-    }
-    let c = Cursor { at: BitPos(at + 8) };
-    match c.read_u8(s, 8) {
-        Ok(read) => {
-            let n = len - 2;
-            let room = text_room(s, at + 16, n);
-            text_read(room, i, 16 + 8 * n, at / 8 + 2, n, Some(read.value))
-        }
-        Err(e) => refused(i, e),
-    }
-}
-
-pub(crate) fn lau(
-    s: &[u8],
-    f: FieldDescriptor,
-    i: usize,
-    early: bool,
-    at: usize,
-) -> Result<FieldRead, DecodeRefusal>
-    ensures { result ≡ read_over (taken_by shape.Lau (payload_of s.now) i early f.width at) shape.Lau f (payload_of s.now) at }
-{
-    let c = Cursor { at: BitPos(at) };
-    match c.read_u64(s, 8) {
-        Ok(read) => lau_text(s, f, i, at, read.value as usize),
-        Err(e) => refused(i, e),
-    }
 }
 
 // The n bits from `at` on, and 8 more if they are there and zero.
@@ -182,37 +56,105 @@ fn closed_at(s: &[u8], at: usize, n: usize) -> usize
     }
 }
 
-// A StringLz with its length byte.
-fn lz_text(
-    s: &[u8],
-    f: FieldDescriptor,
-    i: usize,
-    at: usize,
-    len: usize,
-) -> Result<FieldRead, DecodeRefusal>
-    requires { (at ≤ 524288) × (len ≡ (payload_of s.now).bits at 8) }
-    ensures { result ≡ read_over (lz_taken (payload_of s.now) i at len) shape.Lz f (payload_of s.now) at }
-{
-    if tables::PAYLOAD_MAX < len {
-        return Err(DecodeRefusal::InvalidDataLength { field: i });
+impl FieldAt {
+    // The n bytes at a place, of a field that takes so many bits, if there is room for them.
+    fn text(
+        self,
+        room: Result<(), BitRefusal>,
+        taken: usize,
+        place: usize,
+        n: usize,
+        encoding: Option<u8>,
+    ) -> Result<FieldRead, DecodeRefusal>
+        ensures { result ≡ text_read_lem room self.i taken place n encoding }
+    {
+        room.map_err(|refusal| self.refused(refusal))?;
+        Ok(FieldRead::Got {
+            bits: BitPos(taken),
+            raw: None,
+            value: text_at(place, n, encoding),
+        })
     }
-    let room = text_room(s, at + 8, len);
-    let taken = closed_at(s, at, 8 + 8 * len);
-    text_read(room, i, taken, at / 8 + 1, len, None)
-}
 
-pub(crate) fn lz(
-    s: &[u8],
-    f: FieldDescriptor,
-    i: usize,
-    early: bool,
-    at: usize,
-) -> Result<FieldRead, DecodeRefusal>
-    ensures { result ≡ read_over (taken_by shape.Lz (payload_of s.now) i early f.width at) shape.Lz f (payload_of s.now) at }
-{
-    let c = Cursor { at: BitPos(at) };
-    match c.read_u64(s, 8) {
-        Ok(read) => lz_text(s, f, i, at, read.value as usize),
-        Err(e) => refused(i, e),
+    // How many bytes a StringFix takes.
+    fn fixed_bytes(self, s: &[u8]) -> usize
+        ensures { result ≡ fixed_bytes_lem (payload_of s.now) self.early self.at self.f.width }
+    {
+        let size = self.f.width as usize / 8;
+        if self.early && FIXED_MAX < size {
+            let left = self.cursor().bits_remaining(s);
+            return size.min(left.0 / 8);
+        }
+        size
+    }
+
+    pub(crate) fn fixed(self, s: &[u8]) -> Result<FieldRead, DecodeRefusal>
+        ensures { result ≡ read_over (taken_by shape.Fixed (payload_of s.now) self.i self.early self.f.width self.at) shape.Fixed self.f (payload_of s.now) self.at }
+    {
+        let n = self.fixed_bytes(s);
+        let room = bytes_room(s, self.at, n);
+        self.text(room, 8 * n, self.at / 8, n, None)
+    }
+
+    pub(crate) fn whole(self, s: &[u8]) -> Result<FieldRead, DecodeRefusal>
+        ensures { result ≡ read_over (taken_by shape.Whole (payload_of s.now) self.i self.early self.f.width self.at) shape.Whole self.f (payload_of s.now) self.at }
+    {
+        let n = self.f.width as usize / 8;
+        let room = bytes_room(s, self.at, n);
+        self.text(room, 8 * n, self.at / 8, n, None)
+    }
+
+    // A StringLau with its length byte.
+    fn lau_text(self, s: &[u8], len: usize) -> Result<FieldRead, DecodeRefusal>
+        requires { self.at ≤ 524288 }
+        ensures { result ≡ read_over (lau_taken (payload_of s.now) self.i self.at len) shape.Lau self.f (payload_of s.now) self.at }
+    {
+        if tables::PAYLOAD_MAX < len {
+            return Err(DecodeRefusal::InvalidDataLength { field: self.i });
+        }
+        if len < 2 {
+            return self.text(Ok(()), 8, 0, 0, None);
+        }
+        let c = Cursor {
+            at: BitPos(self.at + 8),
+        };
+        let encoding = c.read_u8(s, 8).map_err(|refusal| self.refused(refusal))?;
+        let n = len - 2;
+        let room = text_room(s, self.at + 16, n);
+        let place = self.at / 8 + 2;
+        self.text(room, 16 + 8 * n, place, n, Some(encoding.value))
+    }
+
+    pub(crate) fn lau(self, s: &[u8]) -> Result<FieldRead, DecodeRefusal>
+        ensures { result ≡ read_over (taken_by shape.Lau (payload_of s.now) self.i self.early self.f.width self.at) shape.Lau self.f (payload_of s.now) self.at }
+    {
+        let length = self
+            .cursor()
+            .read_u64(s, 8)
+            .map_err(|refusal| self.refused(refusal))?;
+        self.lau_text(s, length.value as usize)
+    }
+
+    // A StringLz with its length byte.
+    fn lz_text(self, s: &[u8], len: usize) -> Result<FieldRead, DecodeRefusal>
+        requires { (self.at ≤ 524288) × (len ≡ (payload_of s.now).bits self.at 8) }
+        ensures { result ≡ read_over (lz_taken (payload_of s.now) self.i self.at len) shape.Lz self.f (payload_of s.now) self.at }
+    {
+        if tables::PAYLOAD_MAX < len {
+            return Err(DecodeRefusal::InvalidDataLength { field: self.i });
+        }
+        let room = text_room(s, self.at + 8, len);
+        let taken = closed_at(s, self.at, 8 + 8 * len);
+        self.text(room, taken, self.at / 8 + 1, len, None)
+    }
+
+    pub(crate) fn lz(self, s: &[u8]) -> Result<FieldRead, DecodeRefusal>
+        ensures { result ≡ read_over (taken_by shape.Lz (payload_of s.now) self.i self.early self.f.width self.at) shape.Lz self.f (payload_of s.now) self.at }
+    {
+        let length = self
+            .cursor()
+            .read_u64(s, 8)
+            .map_err(|refusal| self.refused(refusal))?;
+        self.lz_text(s, length.value as usize)
     }
 }
