@@ -2,8 +2,6 @@
 use mathlib.Core.Path.{◌≡◌}
 use mathlib.Core.Bool.{Bool, true, false}
 use mathlib.Core.List.{List}
-use Prim.Native.Nat.{ℕ}
-use native.Mathlib.Omega.{arith}
 use lib.Dec.{ltb}
 use lib.ListN.{length}
 use borrow.Author.Tests.{lt-ltb, le-ltb}
@@ -14,8 +12,8 @@ use Rattle.writing.proofs.Loops.{Listed}
 use Rattle.lent_values.specs.Run.{values_of}
 
 some : (b : Bool) (v : PgnValue) → b ≡ true → pick b (Value v) Nothing ≡ Nothing → ⊥
-some true v h e = let y : ◌≡◌ {A = ℕ} 0 1 = cc in absurd (omega arith)
-some false v h e = let y : ◌≡◌ {A = ℕ} 0 1 = cc in absurd (omega arith)
+some true v h e = absurd cc
+some false v h e = absurd cc
 
 pub listed : (vs : List PgnValue) → Listed (values_of vs)
 listed vs = record { past = λ j l. rw (le-ltb j (length vs) l); here = λ j l e. some (ltb j (length vs)) _ (lt-ltb j (length vs) l) e }

@@ -5,7 +5,6 @@ use mathlib.Core.Path.{◌≡◌, refl, ap, ◌∙◌, subst}
 use mathlib.Core.Bool.{Bool, true, false}
 use mathlib.Core.List.{List}
 use Prim.Native.Nat.{ℕ, ◌≤◌, ◌<◌}
-use native.Mathlib.Omega.{arith}
 use lib.Dec.{ltb}
 use borrow.Author.Tests.{ltb-false}
 use Rattle.bits.specs.Bits.{pick}
@@ -34,7 +33,7 @@ abbrev Gives : EncodeRefusal → Type 0
 Gives f = given_by_encode (number_of f) ≡ true
 
 settled-gives : (t : Table) (i : ℕ) (e : Element) (s : Pen) (w : Result Weighed EncodeRefusal) (f : EncodeRefusal) → Given w → settled t i e s w ≡ miss f → Gives f
-settled-gives t i e s (Ok w) f g h = let k : ◌≡◌ {A = ℕ} 0 1 = cc in absurd (omega arith)
+settled-gives t i e s (Ok w) f g h = absurd cc
 settled-gives t i e s (Err x) f g h = let k : x ≡ f = cc in subst Gives k g
 
 -- ## The walk
@@ -73,7 +72,7 @@ module _ (t : Table) (ok : check_of t ≡ Ok tt) (size : ℕ) (small : size ≤ 
 module _ (t : Table) (vs : Values) (lent size : ℕ) (f : EncodeRefusal) where
   by_count : (b : Bool) (s : Pen) → pick b (Err (ValueCount t.count)) (Ok (bytes (bytes_used_lem s))) ≡ Err f → Gives f
   by_count true s e = let k : ValueCount t.count ≡ f = cc in subst Gives k refl
-  by_count false s e = let k : ◌≡◌ {A = ℕ} 0 1 = cc in absurd (omega arith)
+  by_count false s e = absurd cc
 
   by-run : check_of t ≡ Ok tt → size ≤ payload_max → (w : Run Mark Pen EncodeRefusal) → writes_of t vs.offered lent size ≡ w
       → end_of t vs.count w ≡ Err f → Gives f

@@ -30,13 +30,13 @@ use Rattle.fields.specs.Payload.{Payload, bits_left}
 use Rattle.reading.specs.Groups.{fitting, element_count_lem}
 use Rattle.weighing.specs.declared.EncodeRefusal.{EncodeRefusal}
 use Rattle.weighing.specs.declared.Weighed.{Weighed}
-use Rattle.weighing.specs.declared.Weighed.TheVariants.{Number, Gap, Text}
 use Rattle.offers.specs.declared.Offer.{Offer}
 use Rattle.offers.specs.declared.Offer.TheVariants.{Nothing, NoKind, Value}
 use Rattle.writing.specs.declared.Pen.{Pen}
 use Rattle.writing.specs.Encode.{Mark, mark_at, content_of_lem, pen_after_lem, settled, one_of, count_of, too_many}
 use Rattle.writing.specs.Strokes.{size_of}
 use Rattle.writing.specs.ReadBack.{Offers}
+use Rattle.writing.proofs.Contents.{pen-past}
 use Rattle.writing.proofs.Holding.{Holds, Kept}
 use Rattle.writing.proofs.Meant.{Meant, a-number, a-gap, a-fixed, a-whole, a-lz, a-lau, an-absent, refused, content-meant}
 
@@ -111,13 +111,11 @@ module _ (t : Table) (offered : ℕ → Offer) (lent size : ℕ) where
     where
       go : (x : Result Weighed EncodeRefusal) → content_of_lem (offered s.used) (t.field i) i lent size s.at.0 ≡ x → settled t i e s x ≡ hit m z → Wrote t offered lent size i e s m z
       go (Ok x) q k = record { content = Ok x; weighed = q; kept = tt; mark = cc; pen = cc }
-      go (Err f) q k = let y : ◌≡◌ {A = ℕ} 0 1 = cc in absurd (omega arith)
+      go (Err f) q k = absurd cc
 
   -- the pen then stands after the field's bits
   pen-ahead : (i : ℕ) (e : Element) (s : Pen) (x : Result Weighed EncodeRefusal) → Kept x → (pen_after_lem t i e s x).at.0 ≡ s.at.0 + (size_of x).0
-  pen-ahead i e s (Ok (Number n r)) h = refl
-  pen-ahead i e s (Ok (Gap n)) h = refl
-  pen-ahead i e s (Ok (Text n lead b)) h = refl
+  pen-ahead i e s (Ok x) h = pen-past t i e s x
   pen-ahead i e s (Err f) h = absurd h
 
   pub ahead : {i : ℕ} {e : Element} {s : Pen} {m : Mark} {z : Pen} → (h : Wrote t offered lent size i e s m z) → z.at.0 ≡ s.at.0 + (size_of h.content).0

@@ -22,14 +22,12 @@ use Rattle.reading.proofs.Received.{working-fills}
 use Rattle.reading.proofs.Working.{working-le}
 use Rattle.weighing.specs.declared.EncodeRefusal.{EncodeRefusal}
 use Rattle.weighing.specs.declared.Weighed.{Weighed}
-use Rattle.weighing.specs.declared.Weighed.TheVariants.{Number, Gap, Text}
 use Rattle.offers.specs.declared.Offer.{Offer}
 use Rattle.writing.specs.declared.Pen.{Pen}
 use Rattle.writing.specs.Ink.{Puttable}
 use Rattle.writing.specs.Encode.{Mark, mark_at, pen_after_lem, content_of_lem, settled, one_of, count_of, too_many, beginning, writes_of, bytes_used_lem, marks_of, image_of}
-use Rattle.writing.specs.Strokes.{size_of}
 use Rattle.writing.specs.Ones.{past, end_at}
-use Rattle.writing.proofs.Contents.{content-puts}
+use Rattle.writing.proofs.Contents.{content-puts, pen-past}
 use Rattle.writing.proofs.Holding.{Inks, Holds}
 use Rattle.writing.proofs.Painted.{inks-local, Chained, chained_append, chained-le, chained-end, chained-inside, length-painted, painted-inks}
 
@@ -40,13 +38,8 @@ module _ (t : Table) (offered : ℕ → Offer) (lent : List ℕ) (size : ℕ) wh
   C s ms z = Chained size (length lent) s.at.0 ms z.at.0
 
   settled-one : (i : ℕ) (e : Element) (s : Pen) (w : Result Weighed EncodeRefusal) (m : Mark) (z : Pen) → Puttable size s.at.0 w (length lent) → settled t i e s w ≡ hit m z → C s (m ∷ []) z
-  settled-one i e s (Ok w) m z l h = let p : mark_at i e s.at.0 (Ok w) ≡ m = cc in let q : pen_after_lem t i e s (Ok w) ≡ z = cc in rw (← p, ← q) (refl, (l, ahead w))
-    where
-      ahead : (w : Weighed) → s.at.0 + (size_of (Ok w)).0 ≡ (pen_after_lem t i e s (Ok w)).at.0
-      ahead (Number n r) = refl
-      ahead (Gap n) = refl
-      ahead (Text n lead b) = refl
-  settled-one i e s (Err f) m z l h = let k : ◌≡◌ {A = ℕ} 0 1 = cc in absurd (omega arith)
+  settled-one i e s (Ok w) m z l h = let p : mark_at i e s.at.0 (Ok w) ≡ m = cc in let q : pen_after_lem t i e s (Ok w) ≡ z = cc in rw (← p, ← q) (refl, (l, sym (pen-past t i e s w)))
+  settled-one i e s (Err f) m z l h = absurd cc
 
   abbrev Follow : Run Mark Pen EncodeRefusal → Type 0
   Follow w = Lawful C (λ (s : Pen) (f : EncodeRefusal). Unit {0}) beginning w

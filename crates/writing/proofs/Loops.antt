@@ -4,7 +4,6 @@ use mathlib.Core.Path.{◌≡◌, refl, sym, ap, ◌∙◌, subst}
 use mathlib.Core.Bool.{Bool, true, false}
 use mathlib.Core.List.{List, [], ◌∷◌, ◌++◌, append-nil}
 use Prim.Native.Nat.{ℕ, ◌≤◌, ◌<◌}
-use native.Mathlib.Omega.{arith}
 use lib.Dec.{ltb}
 use lib.ListN.{length, replicate, length-replicate}
 use borrow.Author.Tests.{ltb-true, ltb-false}
@@ -74,7 +73,7 @@ hit-mark v w z y h = cc
 
 settled-kept : (t : Table) (i : ℕ) (e : Element) (s : Pen) (v : Mark) (z : Pen) (w : Result Weighed EncodeRefusal) → settled t i e s w ≡ hit v z → Kept v.content
 settled-kept t i e s v z (Ok w) h = subst (λ (m : Mark). Kept m.content) (hit-mark v _ z _ h) tt
-settled-kept t i e s v z (Err f) h = let k : ◌≡◌ {A = ℕ} 0 1 = cc in absurd (omega arith)
+settled-kept t i e s v z (Err f) h = absurd cc
 
 same-refusal : (e f : EncodeRefusal) → ◌≡◌ {A = Result Stroke EncodeRefusal} (Err e) (Err f) → e ≡ f
 same-refusal e f h = cc
@@ -129,8 +128,8 @@ module _ (t : Table) (vs : Values) (lent : List ℕ) (size : ℕ) where
   turned_on : (d : Draft) (x : Stroked) (after : List ℕ) → goes_on_lem x.stroke ≡ true → Going x.draft after × (heft x.draft < heft d) → Turned d x after
   turned_on d x after o h = record {
     on = λ _. h;
-    ends = λ e. let z : ◌≡◌ {A = Bool} true false = sym o ∙ ap goes_on_lem e in let y : ◌≡◌ {A = ℕ} 0 1 = cc in absurd (omega arith);
-    stops = λ f e. let z : ◌≡◌ {A = Bool} true false = sym o ∙ ap goes_on_lem e in let y : ◌≡◌ {A = ℕ} 0 1 = cc in absurd (omega arith);
+    ends = λ e. let z : ◌≡◌ {A = Bool} true false = sym o ∙ ap goes_on_lem e in absurd cc;
+    stops = λ f e. let z : ◌≡◌ {A = Bool} true false = sym o ∙ ap goes_on_lem e in absurd cc;
   }
 
   -- a walk that is over leaves the fields that it met
@@ -159,22 +158,22 @@ module _ (t : Table) (vs : Values) (lent : List ℕ) (size : ℕ) where
   end-turned listed d buffer g z same e Nothing q =
       let h = used-up listed z (g.done ++ []) e (ap (λ (s : Pen). vs.offered s.used) (sym same) ∙ q) in
       record {
-        on = λ k. let y : ◌≡◌ {A = ℕ} 0 1 = cc in absurd (omega arith);
+        on = λ k. absurd cc;
         ends = λ _. (h, over d buffer g _ e refl);
-        stops = λ f k. let y : ◌≡◌ {A = ℕ} 0 1 = cc in absurd (omega arith);
+        stops = λ f k. absurd cc;
       }
   end-turned listed d buffer g z same e NoKind q =
-      let h = left_over listed z (g.done ++ []) e NoKind (ap (λ (s : Pen). vs.offered s.used) (sym same) ∙ q) (λ k. let y : ◌≡◌ {A = ℕ} 0 1 = cc in absurd (omega arith)) in
+      let h = left_over listed z (g.done ++ []) e NoKind (ap (λ (s : Pen). vs.offered s.used) (sym same) ∙ q) (λ k. absurd cc) in
       record {
-        on = λ k. let y : ◌≡◌ {A = ℕ} 0 1 = cc in absurd (omega arith);
-        ends = λ k. let y : ◌≡◌ {A = ℕ} 0 1 = cc in absurd (omega arith);
+        on = λ k. absurd cc;
+        ends = λ k. absurd cc;
         stops = λ f k. (h ∙ ap Err (same-refusal _ f k), over d buffer g _ e refl);
       }
   end-turned listed d buffer g z same e (Value v) q =
-      let h = left_over listed z (g.done ++ []) e (Value v) (ap (λ (s : Pen). vs.offered s.used) (sym same) ∙ q) (λ k. let y : ◌≡◌ {A = ℕ} 0 1 = cc in absurd (omega arith)) in
+      let h = left_over listed z (g.done ++ []) e (Value v) (ap (λ (s : Pen). vs.offered s.used) (sym same) ∙ q) (λ k. absurd cc) in
       record {
-        on = λ k. let y : ◌≡◌ {A = ℕ} 0 1 = cc in absurd (omega arith);
-        ends = λ k. let y : ◌≡◌ {A = ℕ} 0 1 = cc in absurd (omega arith);
+        on = λ k. absurd cc;
+        ends = λ k. absurd cc;
         stops = λ f k. (h ∙ ap Err (same-refusal _ f k), over d buffer g _ e refl);
       }
 
@@ -208,8 +207,8 @@ module _ (t : Table) (vs : Values) (lent : List ℕ) (size : ℕ) where
   turned_by listed d buffer g (broke k z) e f m =
       let r = stands-broke t one count too_many beginning g.done d.spot d.pen z k g.stands e in
       record {
-        on = λ o. let y : ◌≡◌ {A = ℕ} 0 1 = cc in absurd (omega arith);
-        ends = λ o. let y : ◌≡◌ {A = ℕ} 0 1 = cc in absurd (omega arith);
+        on = λ o. absurd cc;
+        ends = λ o. absurd cc;
         stops = λ x o. (ap (end_of t vs.count) r ∙ ap Err (same-refusal k x o), over d buffer g _ r refl);
       }
 

@@ -92,7 +92,7 @@ module _ (G : PgnValue → Type 0) (f : FieldDescriptor) (lent at : ℕ) where
         let l : Lies b = ltb-false lent (b.start.0 + b.len.0) o.1 in
         picked sh aligned (if_aligned_lem i at put told) told
         (λ _. picked sh (eqb (at % 8) 0) told (Err (BitWriteError i (NonAlignedBit (bits (saturated (at + put)))))) (λ z. fits (λ _. eqb-true (at % 8) 0 z) o.0 l) (λ _. refused))
-        (λ z. fits (λ y. let k : ◌≡◌ {A = ℕ} 0 1 = cc in absurd (omega arith)) o.0 l))
+        (λ z. fits (λ y. absurd cc) o.0 l))
 
     unencoded-meant : (sh : Shape) (e : Option ℕ) (w : Result Weighed EncodeRefusal) → Meant sh w → Meant sh (unencoded e i w)
     unencoded-meant sh None w h = h

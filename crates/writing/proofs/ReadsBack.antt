@@ -116,16 +116,16 @@ module _ (t : Table) (vs : Values) (lent size n : ℕ) where
   end_by (ran ms s) h = (ms, s, refl, go (ltb s.used vs.count) h)
     where
       go : (b : Bool) → pick b (Err (ValueCount t.count)) (Ok (bytes (bytes_used_lem s))) ≡ Ok (bytes n) → n ≡ bytes_used_lem s
-      go true e = let z : ◌≡◌ {A = ℕ} 0 1 = cc in absurd (omega arith)
+      go true e = absurd cc
       go false e = let q : bytes (bytes_used_lem s) ≡ bytes n = cc in sym (ap (λ (x : ByteCount). x.0) q)
-  end_by (stopped ms f) h = let z : ◌≡◌ {A = ℕ} 0 1 = cc in absurd (omega arith)
+  end_by (stopped ms f) h = absurd cc
 
   pub accepts : encoded_of t vs lent size ≡ Ok (bytes n) → Accepts t vs lent size n
   accepts h = go (ltb payload_max size) (check_of t) refl refl h
     where
       go : (b : Bool) (c : Checked) → ltb payload_max size ≡ b → check_of t ≡ c → encoded_in (pick b (Err (WrongLength (bytes size))) (by_check c)) t vs lent size ≡ Ok (bytes n) → Accepts t vs lent size n
-      go true c q o e = let z : ◌≡◌ {A = ℕ} 0 1 = cc in absurd (omega arith)
-      go false (Err b) q o e = let z : ◌≡◌ {A = ℕ} 0 1 = cc in absurd (omega arith)
+      go true c q o e = absurd cc
+      go false (Err b) q o e = absurd cc
       go false (Ok tt) q o e =
           let a = end_by (writes_of t vs.offered lent size) e in
           record { short = ltb-false payload_max size q; table = o; begins = rw (q, o); marks = a.0; end = a.1; writes = a.2; used = a.3 }
