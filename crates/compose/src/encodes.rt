@@ -30,7 +30,7 @@ fn put_known(pgn: u32, values: &[u8], lent: &[u8], page: &mut Page<'_>)
     ensures { PutsOn page.old (known_text (message_of_lem pgn) pgn values.now lent.now) page.new }
 {
     match messages::message_of(pgn) {
-        Some(message) => put_frame(message.table(), pgn, values, lent, page),
+        Some(message) => put_frame(message.table().words, pgn, values, lent, page),
         None => frame_lines::put_unknown(page, pgn),
     }
 }

@@ -1,8 +1,7 @@
 // A payload's lines, by a built-in message.
-ghost use Rattle.std.specs.Prelude.{◌≡◌, Ok};
+ghost use Rattle.std.specs.Prelude.{◌≡◌};
 ghost use Rattle.text.specs.Sheet.{PutsOn};
 ghost use Rattle.tables.specs.Table.{table_of};
-ghost use Rattle.tables.specs.Check.{check_of};
 ghost use Rattle.messages.specs.Messages.{words_of};
 ghost use Rattle.fields.specs.Payload.{payload_of};
 ghost use Rattle.reading.specs.Demand3.{room_enough_lem};
@@ -12,6 +11,7 @@ use crate::rows::{put_end, put_reading, put_refusal};
 use fields::DecodeRefusal;
 use messages::Message;
 use reading::{Answer, came_to, next_field, room_enough};
+use tables::CheckedTable;
 use text::Page;
 
 // The line of a turn of the walk, if it has one: a reading, the end or the refusal.
@@ -28,13 +28,12 @@ fn put_turn(page: &mut Page<'_>, answer: Result<Answer, DecodeRefusal>, end: usi
 }
 
 // All lines of the walk through a payload, by an accepted table.
-fn put_walk(words: &[u64], payload: &[u8], room: usize, page: &mut Page<'_>)
-    requires { check_of (table_of words.now) ≡ Ok tt }
-    ensures { PutsOn page.old (walk_text (table_of words.now) (payload_of payload.now) room) page.new }
+fn put_walk(table: CheckedTable<'_>, payload: &[u8], room: usize, page: &mut Page<'_>)
+    ensures { PutsOn page.old (walk_text (table_of table.entry.words.now) (payload_of payload.now) room) page.new }
 {
     let mut walk = reading::start();
     loop {
-        let next = next_field(words, payload, room, walk);
+        let next = next_field(table.words, payload, room, walk);
         let progress = next.walk.progress;
         put_turn(page, next.answer, progress.at.0);
         if came_to(next).is_some() {

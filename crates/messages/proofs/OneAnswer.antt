@@ -7,5 +7,5 @@ use Rattle.messages.proofs.Message.table.Reads as table
 one-message-of : Fixes message-of.Post (λ κs x s. x)
 one-message-of = fixed (λ κs a x s p. p)
 
-one-table : Fixes table.Post (λ κs x s. x.now)
+one-table : Fixes table.Post (λ κs x s. x.words.now)
 one-table = fixed (λ κs a x s p. p)

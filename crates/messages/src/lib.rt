@@ -13,6 +13,7 @@ ghost use Rattle.messages.specs.Messages.{words_of};
 mod lookup;
 
 pub use crate::lookup::message_of;
+use tables::CheckedTable;
 
 // The built-in messages, by their PGNs.
 #[derive(Clone, Copy)]
@@ -136,15 +137,16 @@ const TABLE_130900: [u64; 9] = [
 ];
 
 impl Message {
-    // The message's table, in words.
-    pub fn table(self) -> &'static [u64]
-        ensures { result.now ≡ words_of self }
+    // The message's table.
+    pub fn table(self) -> CheckedTable<'static>
+        ensures { result.words.now ≡ words_of self }
     {
-        match self {
+        let words: &'static [u64] = match self {
             Message::M129025 => &TABLE_129025,
             Message::M129026 => &TABLE_129026,
             Message::M129029 => &TABLE_129029,
             Message::M130900 => &TABLE_130900,
-        }
+        };
+        CheckedTable { words }
     }
 }

@@ -1,9 +1,7 @@
 // The decode turn by turn, with a line for each reading.
-ghost use Rattle.std.specs.Prelude.{◌≡◌, Ok};
+ghost use Rattle.std.specs.Prelude.{◌≡◌};
 ghost use mathlib.Core.List.{flat_map};
 ghost use Rattle.text.specs.Sheet.{PutsOn};
-ghost use Rattle.tables.specs.Table.{table_of};
-ghost use Rattle.tables.specs.Check.{check_of};
 ghost use Rattle.reading.specs.Steps.{handed};
 ghost use Rattle.readcalls.specs.Lines.{reading_line};
 ghost use Rattle.readcalls.specs.Clauses.{Walks, Turns};
@@ -11,6 +9,7 @@ ghost use Rattle.readcalls.specs.Clauses.{Walks, Turns};
 use crate::answers::put_reading;
 use fields::DecodeRefusal;
 use reading::{Answer, Decoded};
+use tables::CheckedTable;
 use text::Page;
 
 // The line of the reading that a turn hands out, if it does.
@@ -25,13 +24,12 @@ fn put_turn(page: &mut Page<'_>, answer: Result<Answer, DecodeRefusal>)
 }
 
 // The walk through the working payload s, by an accepted table.
-fn put_walk(words: &[u64], s: &[u8], room: usize, page: &mut Page<'_>) -> Decoded
-    requires { check_of (table_of words.now) ≡ Ok tt }
-    ensures { Walks result page.new words.now s.now room page.old }
+fn put_walk(table: CheckedTable<'_>, s: &[u8], room: usize, page: &mut Page<'_>) -> Decoded
+    ensures { Walks result page.new table.entry.words.now s.now room page.old }
 {
     let mut walk = reading::start();
     loop {
-        let next = reading::next_field(words, s, room, walk);
+        let next = reading::next_field(table.words, s, room, walk);
         put_turn(page, next.answer);
         if let Some(decoded) = reading::came_to(next) {
             return decoded;
@@ -53,7 +51,7 @@ pub(crate) fn put_turns(
     match reading::prepare(words, received, padded) {
         Ok(()) => {
             let s = reading::pad_to_min_length(words, received, padded);
-            put_walk(words, s, room, page)
+            put_walk(CheckedTable { words }, s, room, page)
         }
         Err(refusal) => Decoded {
             end: Err(refusal),

@@ -1,20 +1,18 @@
 // A payload from its first field to the end.
-ghost use Rattle.std.specs.Prelude.{◌≡◌, Ok};
-ghost use Rattle.tables.specs.Table.{table_of};
-ghost use Rattle.tables.specs.Check.{check_of};
+ghost use Rattle.std.specs.Prelude.{◌≡◌};
 ghost use Rattle.reading.specs.Demand3.{room_enough_lem};
 ghost use Rattle.reading.specs.Clauses.{Decodes, walked_by};
 
 use crate::{Decoded, ROOM_ENOUGH, filling, turns};
+use tables::CheckedTable;
 
 // The walk through the working payload s, by an accepted table.
-fn walked(words: &[u64], s: &[u8], room: usize) -> Decoded
-    requires { check_of (table_of words.now) ≡ Ok tt }
-    ensures { result ≡ walked_by words.now s.now room }
+fn walked(table: CheckedTable<'_>, s: &[u8], room: usize) -> Decoded
+    ensures { result ≡ walked_by table.entry.words.now s.now room }
 {
     let mut walk = turns::start();
     loop {
-        let next = turns::next_field(words, s, room, walk);
+        let next = turns::next_field(table.words, s, room, walk);
         if let Some(decoded) = turns::came_to(next) {
             return decoded;
         }
@@ -34,7 +32,7 @@ pub fn for_each_field(words: &[u64], received: &[u8], padded: &mut [u8], room: u
         };
     }
     let s = filling::pad_to_min_length(words, received, padded);
-    walked(words, s, room)
+    walked(CheckedTable { words }, s, room)
 }
 
 // With room for so many readings no decode gives 9.

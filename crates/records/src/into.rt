@@ -1,7 +1,5 @@
 // A payload into records, by a table.
-ghost use Rattle.std.specs.Prelude.{◌≡◌, Ok};
-ghost use Rattle.tables.specs.Table.{table_of};
-ghost use Rattle.tables.specs.Check.{check_of};
+ghost use Rattle.std.specs.Prelude.{◌≡◌};
 ghost use Rattle.records.specs.Layout.{room_in_lem};
 ghost use Rattle.records.specs.Stretches.{counted};
 ghost use Rattle.records.specs.Clauses.{Walks, DecodesInto};
@@ -9,6 +7,7 @@ ghost use Rattle.records.specs.Clauses.{Walks, DecodesInto};
 use crate::layout::put_word;
 use crate::walks;
 use reading::Decoded;
+use tables::CheckedTable;
 
 // How many records a buffer of so many bytes has room for, beside the count.
 pub fn room_in(len: usize) -> usize
@@ -31,12 +30,11 @@ fn put_count(out: &mut [u8], n: usize)
 }
 
 // The walk through the working payload s, by an accepted table, with its count.
-pub(crate) fn walked(words: &[u64], s: &[u8], out: &mut [u8]) -> Decoded
-    requires { check_of (table_of words.now) ≡ Ok tt }
-    ensures { Walks result out.new words.now s.now out.old }
+pub(crate) fn walked(table: CheckedTable<'_>, s: &[u8], out: &mut [u8]) -> Decoded
+    ensures { Walks result out.new table.entry.words.now s.now out.old }
 {
     let room = room_in(out.len());
-    let decoded = walks::store(words, s, room, out);
+    let decoded = walks::store(table, s, room, out);
     put_count(out, decoded.count);
     decoded
 }
@@ -48,7 +46,7 @@ pub fn decode_into(words: &[u64], received: &[u8], padded: &mut [u8], out: &mut 
     match reading::prepare(words, received, padded) {
         Ok(()) => {
             let s = reading::pad_to_min_length(words, received, padded);
-            walked(words, s, out)
+            walked(CheckedTable { words }, s, out)
         }
         Err(refusal) => Decoded {
             end: Err(refusal),

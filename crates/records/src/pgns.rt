@@ -1,8 +1,7 @@
 // A payload into records, by a table that is built in. Its check is not run: that the check accepts
 // each of them is a theorem, proofs/Accepted.antt of `messages`.
-ghost use Rattle.std.specs.Prelude.{◌≡◌, length, Ok};
+ghost use Rattle.std.specs.Prelude.{◌≡◌, length};
 ghost use Rattle.tables.specs.Table.{table_of};
-ghost use Rattle.tables.specs.Check.{check_of};
 ghost use Rattle.bits.specs.Calls.{bytes};
 ghost use Rattle.fields.specs.declared.DecodeRefusal.TheVariants.{WrongLength};
 ghost use Rattle.reading.specs.Decode.{refused_with};
@@ -12,6 +11,7 @@ use crate::into;
 use bits::ByteCount;
 use fields::DecodeRefusal;
 use reading::Decoded;
+use tables::CheckedTable;
 
 // Refusal 7, before any reading.
 fn wrong_length(len: usize) -> Decoded
@@ -26,15 +26,15 @@ fn wrong_length(len: usize) -> Decoded
 }
 
 // By an accepted table that fills nothing.
-fn known(words: &[u64], received: &[u8], padded: &[u8], out: &mut [u8]) -> Decoded
-    requires { (check_of (table_of words.now) ≡ Ok tt) × ((table_of words.now).minimum ≡ 0) }
-    ensures { Reads result out.new words.now received.now (length padded.now) out.old }
+fn known(table: CheckedTable<'_>, received: &[u8], padded: &[u8], out: &mut [u8]) -> Decoded
+    requires { (table_of table.words.now).minimum ≡ 0 }
+    ensures { Reads result out.new table.entry.words.now received.now (length padded.now) out.old }
 {
     if tables::PAYLOAD_MAX < received.len() {
         return wrong_length(received.len());
     }
     if padded.len() == tables::PAYLOAD_MAX {
-        return into::walked(words, received, out);
+        return into::walked(table, received, out);
     }
     wrong_length(padded.len())
 }

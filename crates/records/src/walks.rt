@@ -1,7 +1,6 @@
 // The walk through a payload with its readings stored: quickly as far as it goes, else turn by turn.
-ghost use Rattle.std.specs.Prelude.{◌≡◌, ◌≤◌, Ok};
+ghost use Rattle.std.specs.Prelude.{◌≡◌, ◌≤◌};
 ghost use Rattle.tables.specs.Table.{table_of};
-ghost use Rattle.tables.specs.Check.{check_of};
 ghost use Rattle.walking.specs.declared.Spot.TheVariants as spot;
 ghost use Rattle.fields.specs.Payload.{payload_of};
 ghost use Rattle.reading.specs.Decode.{progress_at};
@@ -12,6 +11,7 @@ ghost use Rattle.records.specs.Clauses.{Turns, Stores};
 use crate::{Stretch, readings, runs, stretches};
 use bits::BitPos;
 use reading::{Answer, Decoded, Next, Progress, Walk};
+use tables::CheckedTable;
 use walking::Spot;
 
 // Element e of set k from offset j on, as far as it is quick. The stretch's field is an offset.
@@ -202,14 +202,14 @@ fn turn(words: &[u64], s: &[u8], room: usize, walk: Walk, out: &mut [u8]) -> Nex
 }
 
 // The walk through the working payload s, by an accepted table.
-pub(crate) fn store(words: &[u64], s: &[u8], room: usize, out: &mut [u8]) -> Decoded
-    requires { (check_of (table_of words.now) ≡ Ok tt) × Roomy room out.old }
-    ensures { Stores result out.new words.now s.now room out.old }
+pub(crate) fn store(table: CheckedTable<'_>, s: &[u8], room: usize, out: &mut [u8]) -> Decoded
+    requires { Roomy room out.old }
+    ensures { Stores result out.new table.entry.words.now s.now room out.old }
 {
     let mut walk = reading::start();
     loop {
-        walk = quickly(words, s, room, walk, out);
-        let next = turn(words, s, room, walk, out);
+        walk = quickly(table.words, s, room, walk, out);
+        let next = turn(table.words, s, room, walk, out);
         if let Some(decoded) = reading::came_to(next) {
             return decoded;
         }

@@ -53,7 +53,7 @@ pub fn samopute_encode_pgn(
     ensures { EncodesPgn result payload.new answer.new pgn values.now text.now payload.old }
 {
     match messages::message_of(pgn) {
-        Some(message) => samopute_encode(message.table(), values, text, payload, answer),
+        Some(message) => samopute_encode(message.table().words, values, text, payload, answer),
         None => {
             *answer = [0, pgn as u64, 0, 0];
             15

@@ -9,6 +9,7 @@
 ghost use Rattle.std.specs.Prelude.{◌≡◌};
 ghost use Rattle.tables.specs.Check.{letter_of};
 
+mod checked;
 mod checking;
 mod classes;
 mod kept;
@@ -16,6 +17,7 @@ mod rules;
 mod sets;
 mod words;
 
+pub use crate::checked::CheckedTable;
 pub use crate::checking::check;
 pub use crate::sets::{group_bits, is_repetitive_field};
 pub use crate::words::{

@@ -1,12 +1,11 @@
 // A payload from its first field to the end, its values in records.
-ghost use Rattle.std.specs.Prelude.{◌≡◌, ◌+◌, ◌/◌, length, replicate, Ok};
+ghost use Rattle.std.specs.Prelude.{◌≡◌, ◌+◌, ◌/◌, length, replicate};
 ghost use Rattle.bits.specs.Calls.{bytes};
-ghost use Rattle.tables.specs.Table.{table_of};
-ghost use Rattle.tables.specs.Check.{check_of};
 ghost use Rattle.writing.specs.Clauses.{Writes, Encodes};
 
 use crate::{Stroke, begins, strokes};
 use bits::{BitPos, ByteCount};
+use tables::CheckedTable;
 use weighing::EncodeRefusal;
 
 // The bytes that so many bits take, rounded up.
@@ -18,18 +17,18 @@ pub fn bytes_used(at: BitPos) -> ByteCount
 
 // The walk, by an accepted table, through a buffer of ones.
 fn written(
-    words: &[u64],
+    table: CheckedTable<'_>,
     values: &[u8],
     lent: &[u8],
     buffer: &mut [u8],
 ) -> Result<ByteCount, EncodeRefusal>
-    requires { (check_of (table_of words.now) ≡ Ok tt) × (buffer.old ≡ replicate (length buffer.old) 0xff) }
-    ensures { Writes result buffer.new words.now values.now lent.now buffer.old }
+    requires { buffer.old ≡ replicate (length buffer.old) 0xff }
+    ensures { Writes result buffer.new table.entry.words.now values.now lent.now buffer.old }
 {
     let mut draft = strokes::start();
     loop {
         let offer = offers::offer_at(values, draft.pen.used);
-        let next = strokes::write_next(words, buffer, lent, draft, offer);
+        let next = strokes::write_next(table.words, buffer, lent, draft, offer);
         draft = next.draft;
         if let Stroke::Ended = next.stroke? {
             return Ok(bytes_used(draft.pen.at));
@@ -48,5 +47,5 @@ pub fn encode(
     ensures { Encodes result buffer.new words.now values.now lent.now buffer.old }
 {
     begins::begin(words, buffer)?;
-    written(words, values, lent, buffer)
+    written(CheckedTable { words }, values, lent, buffer)
 }

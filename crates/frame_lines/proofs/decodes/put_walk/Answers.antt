@@ -30,23 +30,19 @@ still-on n e h k = on-by n.answer n.walk.progress ∙ ap not (sym (ap is_some e)
 
 pub loop-next-init : goal.loop-next-init
 loop-next-init c =
-    let t = table_of c.args.words.now in
-    let p = payload_of c.args.payload.now in (
-      c.requires,
-      subst (λ (w : Walk). Printed reading_line t p c.args.room c.args.page.now c.args.page.now w) (sym c.start-walk.ensures) (begins reading_line t p c.args.room c.args.page.now),
-    )
+    let t = table_of c.args.table.words.now in
+    let p = payload_of c.args.payload.now in
+    subst (λ (w : Walk). Printed reading_line t p c.args.room c.args.page.now c.args.page.now w) (sym c.start-walk.ensures) (begins reading_line t p c.args.room c.args.page.now)
 
 pub loop-next-smaller : goal.loop-next-smaller
-loop-next-smaller c = ((leaves _ _ _ c.loop-next.invariant.0 c.loop-next.invariant.1.going c.next_field-next.ensures).on (still-on c.next_field-next.result c.came_to.ensures c.is_some.ensures c.if-is_some.false)).less
+loop-next-smaller c = ((leaves _ _ _ c.args.table.accepted c.loop-next.invariant.going c.next_field-next.ensures).on (still-on c.next_field-next.result c.came_to.ensures c.is_some.ensures c.if-is_some.false)).less
 
 pub loop-next-preserved : goal.loop-next-preserved
 loop-next-preserved c =
-    let on = still-on c.next_field-next.result c.came_to.ensures c.is_some.ensures c.if-is_some.false in (
-      c.loop-next.invariant.0,
-      goes reading_line _ _ _ c.loop-next.invariant.1 (leaves _ _ _ c.loop-next.invariant.0 c.loop-next.invariant.1.going c.next_field-next.ensures) on (same (turn_lines c.next_field-next.result.answer _ on) c.put_turn.ensures),
-    )
+    let on = still-on c.next_field-next.result c.came_to.ensures c.is_some.ensures c.if-is_some.false in
+    goes reading_line _ _ _ c.loop-next.invariant (leaves _ _ _ c.args.table.accepted c.loop-next.invariant.going c.next_field-next.ensures) on (same (turn_lines c.next_field-next.result.answer _ on) c.put_turn.ensures)
 
 pub returns-then-is_some : goal.returns-then-is_some
 returns-then-is_some c =
     let last = still-on c.next_field-next.result c.came_to.ensures c.is_some.ensures c.if-is_some.true in
-    ends _ _ _ c.loop-next.invariant.1 (leaves _ _ _ c.loop-next.invariant.0 c.loop-next.invariant.1.going c.next_field-next.ensures) last c.put_turn.ensures
+    ends _ _ _ c.loop-next.invariant (leaves _ _ _ c.args.table.accepted c.loop-next.invariant.going c.next_field-next.ensures) last c.put_turn.ensures

@@ -1,8 +1,5 @@
 -- Turn by turn, the lines of the readings so far stand on the page. The measure is the weight of the walk.
-use mathlib.Core.Path.{◌≡◌}
-use Rattle.std.specs.Prelude.{Ok}
 use Rattle.tables.specs.Table.{table_of}
-use Rattle.tables.specs.Check.{check_of}
 use Rattle.fields.specs.Payload.{payload_of}
 use Rattle.reading.proofs.Looped.{heft}
 use Rattle.frame_lines.proofs.Walked.{Printed}
@@ -10,7 +7,7 @@ use Rattle.readcalls.specs.Lines.{reading_line}
 use Rattle.readcalls.proofs.turning.put_walk.Given as goal
 
 abbrev pub invariant-loop-decoded : goal.invariant-loop-decoded
-invariant-loop-decoded l = (check_of (table_of l.words) ≡ Ok tt) × Printed reading_line (table_of l.words) (payload_of l.s) l.room l.initial.page l.page l.walk
+invariant-loop-decoded l = Printed reading_line (table_of l.table.words.now) (payload_of l.s) l.room l.initial.page l.page l.walk
 
 abbrev pub decreases-loop-decoded : goal.decreases-loop-decoded
-decreases-loop-decoded l = heft (table_of l.words) (payload_of l.s) l.room l.walk
+decreases-loop-decoded l = heft (table_of l.table.words.now) (payload_of l.s) l.room l.walk

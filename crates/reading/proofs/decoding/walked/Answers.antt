@@ -8,15 +8,15 @@ use Rattle.reading.proofs.decoding.walked.Goals as goal
 
 pub loop-decoded-init : goal.loop-decoded-init
 loop-decoded-init c =
-    let t = table_of c.args.words.now in
+    let t = table_of c.args.table.words.now in
     let p = payload_of c.args.s.now in
-    (c.requires, subst (λ (w : Walk). Going t p c.args.room w) (sym c.start-walk.ensures) (going t p c.args.room))
+    subst (λ (w : Walk). Going t p c.args.room w) (sym c.start-walk.ensures) (going t p c.args.room)
 
 pub loop-decoded-smaller : goal.loop-decoded-smaller
-loop-decoded-smaller c = ((leaves _ _ _ c.loop-decoded.invariant.0 c.loop-decoded.invariant.1 c.next_field-next.ensures).on (goes-on c.next_field-next.result c.came_to.ensures c.in_default.is)).less
+loop-decoded-smaller c = ((leaves _ _ _ c.args.table.accepted c.loop-decoded.invariant c.next_field-next.ensures).on (goes-on c.next_field-next.result c.came_to.ensures c.in_default.is)).less
 
 pub loop-decoded-preserved : goal.loop-decoded-preserved
-loop-decoded-preserved c = (c.loop-decoded.invariant.0, ((leaves _ _ _ c.loop-decoded.invariant.0 c.loop-decoded.invariant.1 c.next_field-next.ensures).on (goes-on c.next_field-next.result c.came_to.ensures c.in_default.is)).still)
+loop-decoded-preserved c = ((leaves _ _ _ c.args.table.accepted c.loop-decoded.invariant c.next_field-next.ensures).on (goes-on c.next_field-next.result c.came_to.ensures c.in_default.is)).still
 
 pub returns-in-Some : goal.returns-in-Some
-returns-in-Some c = sym (comes-to _ _ _ c.loop-decoded.invariant.0 c.loop-decoded.walk c.loop-decoded.invariant.1 c.next_field-next.result (leaves _ _ _ c.loop-decoded.invariant.0 c.loop-decoded.invariant.1 c.next_field-next.ensures) _ (sym c.came_to.ensures ∙ c.in-Some.is))
+returns-in-Some c = sym (comes-to _ _ _ c.args.table.accepted c.loop-decoded.walk c.loop-decoded.invariant c.next_field-next.result (leaves _ _ _ c.args.table.accepted c.loop-decoded.invariant c.next_field-next.ensures) _ (sym c.came_to.ensures ∙ c.in-Some.is))

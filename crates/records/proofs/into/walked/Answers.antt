@@ -14,7 +14,7 @@ use Rattle.records.proofs.into.walked.Goals as goal
 
 pub returns : goal.returns
 returns c =
-    let t = table_of c.args.words.now in
+    let t = table_of c.args.table.words.now in
     let p = payload_of c.args.s.now in
     let room = room_in_lem (length c.args.out.now) in
     let ended : c.store-decoded.result ≡ end_of t p (walk_of t p room) = c.store-decoded.ensures.0 ∙ ap (λ (k : ℕ). end_of t p (walk_of t p k)) c.room_in-room.ensures in

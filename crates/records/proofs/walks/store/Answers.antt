@@ -32,28 +32,23 @@ module _ {t : Table} {p : Payload} {room : ℕ} {out₀ : List ℕ} (ok : check_
 
 pub loop-decoded-init : goal.loop-decoded-init
 loop-decoded-init c =
-    let t = table_of c.args.words.now in
-    let p = payload_of c.args.s.now in (
-      c.requires.0,
-      (c.requires.1, subst (λ (w : Walk). Storing t p c.args.room c.args.out.now w c.args.out.now) (sym c.start-walk.ensures) (storing-none t p c.args.room c.args.out.now)),
-    )
+    let t = table_of c.args.table.words.now in
+    let p = payload_of c.args.s.now in
+    (c.requires, subst (λ (w : Walk). Storing t p c.args.room c.args.out.now w c.args.out.now) (sym c.start-walk.ensures) (storing-none t p c.args.room c.args.out.now))
 
 pub loop-decoded-smaller : goal.loop-decoded-smaller
 loop-decoded-smaller c =
-    let d = (on c.loop-decoded.invariant.0 c.loop-decoded.invariant.1.1 c.quickly-walk.ensures).less in
-    let e = (step c.loop-decoded.invariant.0 c.loop-decoded.invariant.1.1 c.quickly-walk.ensures c.turn-next.ensures.0 c.turn-next.ensures.1 c.came_to.ensures c.in_default.is).less in
+    let d = (on c.args.table.accepted c.loop-decoded.invariant.1 c.quickly-walk.ensures).less in
+    let e = (step c.args.table.accepted c.loop-decoded.invariant.1 c.quickly-walk.ensures c.turn-next.ensures.0 c.turn-next.ensures.1 c.came_to.ensures c.in_default.is).less in
     omega (arith, d, e)
 
 pub loop-decoded-preserved : goal.loop-decoded-preserved
 loop-decoded-preserved c =
-    let roomy = roomy-on _ _ _ _ _ c.loop-decoded.invariant.1.0 c.quickly-walk.ensures.puts in (
-      c.loop-decoded.invariant.0,
-      (
-        roomy-on _ _ _ _ _ roomy c.turn-next.ensures.1,
-        (step c.loop-decoded.invariant.0 c.loop-decoded.invariant.1.1 c.quickly-walk.ensures c.turn-next.ensures.0 c.turn-next.ensures.1 c.came_to.ensures c.in_default.is).storing,
-      ),
+    let roomy = roomy-on _ _ _ _ _ c.loop-decoded.invariant.0 c.quickly-walk.ensures.puts in (
+      roomy-on _ _ _ _ _ roomy c.turn-next.ensures.1,
+      (step c.args.table.accepted c.loop-decoded.invariant.1 c.quickly-walk.ensures c.turn-next.ensures.0 c.turn-next.ensures.1 c.came_to.ensures c.in_default.is).storing,
     )
 
 pub returns-in-Some : goal.returns-in-Some
 returns-in-Some c =
-    let y = stop c.loop-decoded.invariant.0 c.loop-decoded.invariant.1.1 c.quickly-walk.ensures c.turn-next.ensures.0 c.turn-next.ensures.1 c.came_to.ensures c.in-Some.is in (sym y.ends, y.puts)
+    let y = stop c.args.table.accepted c.loop-decoded.invariant.1 c.quickly-walk.ensures c.turn-next.ensures.0 c.turn-next.ensures.1 c.came_to.ensures c.in-Some.is in (sym y.ends, y.puts)
