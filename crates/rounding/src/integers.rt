@@ -34,15 +34,11 @@ pub fn nearest_u64_to_f64(n: u64) -> f64
     f64::from_bits(((1085 - z) as u64) * LEAD_F64 + q)
 }
 
-// n without its sign. -n does not fit at the least i64, so one comes off before and goes back after.
+// n without its sign.
 pub fn magnitude(n: i64) -> u64
     ensures { result ≡ nat_abs n }
 {
-    if n >= 0 {
-        n as u64
-    } else {
-        ((0 - (n + 1)) as u64) + 1
-    }
+    n.unsigned_abs()
 }
 
 // The `f32` nearest to n: +0.0 at 0.

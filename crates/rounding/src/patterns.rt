@@ -4,42 +4,32 @@ ghost use Rattle.std.specs.Prelude.{◌≡◌};
 ghost use Rattle.std.specs.Float.Ieee as Ieee;
 ghost use Rattle.std.specs.Float.{binary32, binary64};
 
+use std::num;
+
 // The `f32` with these bits.
 pub fn f32_of_bits(b: u32) -> f32
     ensures { result ≡ Ieee.of_bits binary32 b }
 {
-    if b % 0x8000_0000 > 0x7f80_0000 {
-        return 0.0 / 0.0;
-    }
-    f32::from_bits(b)
+    num::f32_from_bits_with_nan(b)
 }
 
 // The `f64` with these bits.
 pub fn f64_of_bits(b: u64) -> f64
     ensures { result ≡ Ieee.of_bits binary64 b }
 {
-    if b % 0x8000_0000_0000_0000 > 0x7ff0_0000_0000_0000 {
-        return 0.0 / 0.0;
-    }
-    f64::from_bits(b)
+    num::f64_from_bits_with_nan(b)
 }
 
 // The bits of an `f32`.
 pub fn bits_of_f32(x: f32) -> u32
     ensures { result ≡ Ieee.to_bits binary32 x }
 {
-    if x != x {
-        return 0x7fc0_0000;
-    }
-    f32::to_bits(x)
+    num::f32_to_bits_with_nan(x)
 }
 
 // The bits of an `f64`.
 pub fn bits_of_f64(x: f64) -> u64
     ensures { result ≡ Ieee.to_bits binary64 x }
 {
-    if x != x {
-        return 0x7ff8_0000_0000_0000;
-    }
-    f64::to_bits(x)
+    num::f64_to_bits_with_nan(x)
 }
