@@ -1,7 +1,7 @@
 // A field and its value.
 ghost use Rattle.std.specs.Prelude.{◌≡◌};
 ghost use Rattle.numbers.specs.Conversions.{raw_of_lem};
-ghost use Rattle.weighing.specs.Weigh.{at_field_lem, number_by, gap_of, weighed_of};
+ghost use Rattle.weighing.specs.Weigh.{number_by, gap_of, weighed_of};
 
 use crate::texts::Site;
 use crate::{EncodeRefusal, Weighed};
@@ -23,11 +23,11 @@ fn number(
     match numbers::number_to_raw(f, value) {
         Ok(raw) => {
             let bits = BitPos(f.width as usize);
-            at_field(
-                bits::room_for(size, at, f.width, 64),
-                i,
-                Weighed::Number { bits, raw },
-            )
+            bits::room_for(size, at, f.width, 64).map_err(|refusal| EncodeRefusal::BitWriteError {
+                field: i,
+                refusal,
+            })?;
+            Ok(Weighed::Number { bits, raw })
         }
         Err(NumberRefusal::BadWidth(asked)) => Err(EncodeRefusal::BitWriteError {
             field: i,
@@ -35,20 +35,6 @@ fn number(
         }),
         Err(NumberRefusal::OutOfRange) => Err(EncodeRefusal::OutOfRange { field: i }),
         Err(NumberRefusal::WrongKind) => Err(EncodeRefusal::WrongKind { field: i }),
-    }
-}
-
-// What a bit call would refuse, at field i; else what was weighed.
-fn at_field(
-    room: Result<(), BitRefusal>,
-    i: usize,
-    weighed: Weighed,
-) -> Result<Weighed, EncodeRefusal>
-    ensures { result ≡ at_field_lem room i (Ok weighed) }
-{
-    match room {
-        Ok(()) => Ok(weighed),
-        Err(refusal) => Err(EncodeRefusal::BitWriteError { field: i, refusal }),
     }
 }
 
@@ -62,11 +48,11 @@ pub fn weigh_gap(
     ensures { result ≡ gap_of f i size at.0 }
 {
     let bits = BitPos(f.width as usize);
-    at_field(
-        bits::room_for(size, at.0, f.width, 64),
-        i,
-        Weighed::Gap { bits },
-    )
+    bits::room_for(size, at.0, f.width, 64).map_err(|refusal| EncodeRefusal::BitWriteError {
+        field: i,
+        refusal,
+    })?;
+    Ok(Weighed::Gap { bits })
 }
 
 // A value in field i, at a bit of a buffer of `size` bytes, with a lent text of `lent` bytes.
