@@ -1,8 +1,6 @@
 -- "It is proved that two answers allowed for an input are equal", and so are two contents of a lent buffer: of the
 -- contract of each public call as the source states it, `Post`. Assumes nothing.
 use Rattle.one_answer.proofs.Fixes.{Fixes, fixed}
-use Rattle.bits.proofs.limits.least.Reads as least
-use Rattle.bits.proofs.limits.sum.Reads as sum
 use Rattle.bits.proofs.limits.room_for.Reads as room_for
 use Rattle.bits.proofs.Cursor.new.Reads as new
 use Rattle.bits.proofs.Cursor.seek.Reads as seek
@@ -27,12 +25,6 @@ use Rattle.bits.proofs.Cursor.write_slice.Reads as write-slice
 use Rattle.bits.proofs.Part.bytes.Reads as bytes
 
 -- Calls that lend no buffer to be written: the answer.
-
-one-least : Fixes least.Post (λ κs x s. x)
-one-least = fixed (λ κs a x s p. p)
-
-one-sum : Fixes sum.Post (λ κs x s. x)
-one-sum = fixed (λ κs a x s p. p)
 
 one-new : Fixes new.Post (λ κs x s. x)
 one-new = fixed (λ κs a x s p. p)

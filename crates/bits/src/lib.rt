@@ -16,7 +16,7 @@ mod refusals;
 mod runs;
 mod writes;
 
-pub use crate::limits::{least, room_for, sum};
+pub use crate::limits::room_for;
 
 // A place in a buffer, or a distance, in bits.
 #[derive(Clone, Copy)]
@@ -99,9 +99,7 @@ impl Cursor {
     pub fn bits_remaining(self, s: &[u8]) -> BitPos
         ensures { result ≡ remaining_of (length s.now) self }
     {
-        let at = self.at.0;
-        let end = limits::bits_of(s.len());
-        let left = limits::less(end, at);
-        BitPos(left)
+        let end = s.len().saturating_mul(8);
+        BitPos(end.saturating_sub(self.at.0))
     }
 }

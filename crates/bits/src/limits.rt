@@ -8,40 +8,6 @@ const BUFFER_MAX: usize = 65536;
 
 const WIDTH_MAX: u32 = 64;
 
-const MOST: usize = 0xffff_ffff_ffff_ffff;
-
-// The smaller of the two. Public, as `sum` is, so that it is written and proved once.
-pub fn least(a: usize, b: usize) -> usize
-    ensures { result ≡ min a b }
-{
-    if a < b { a } else { b }
-}
-
-// a - b, or 0 where b is the larger.
-pub(crate) fn less(a: usize, b: usize) -> usize
-    ensures { result ≡ a - b }
-{
-    if b < a { a - b } else { 0 }
-}
-
-// a + b, saturating.
-pub fn sum(a: usize, b: usize) -> usize
-    ensures { result ≡ saturated (a + b) }
-{
-    if a <= MOST - b { a + b } else { MOST }
-}
-
-// The bits of a buffer of len bytes, saturating.
-pub(crate) fn bits_of(len: usize) -> usize
-    ensures { result ≡ saturated (len * 8) }
-{
-    if len <= 0x1fff_ffff_ffff_ffff {
-        len * 8
-    } else {
-        MOST
-    }
-}
-
 // A call of n bits, at most max, at bit `at` of a buffer of len bytes. For those that ask before they
 // write.
 pub fn room_for(len: usize, at: usize, n: u32, max: u32) -> Result<(), BitRefusal>
@@ -62,7 +28,7 @@ pub fn room_for(len: usize, at: usize, n: u32, max: u32) -> Result<(), BitRefusa
         return Err(BitRefusal::TooLongForType { max, asked: n });
     }
     let m = n as usize;
-    let left = less(len * 8, at);
+    let left = (len * 8).saturating_sub(at);
     if left < m {
         return Err(BitRefusal::OutOfBits {
             asked: BitPos(m),
@@ -84,8 +50,8 @@ pub(crate) fn slice_room_for(len: usize, at: usize, n: usize) -> Result<(), BitR
     if at % 8 != 0 {
         return Err(BitRefusal::NonAlignedBit { cursor: BitPos(at) });
     }
-    let end = sum(at / 8, n);
-    let left = less(len * 8, at) / 8;
+    let end = (at / 8).saturating_add(n);
+    let left = (len * 8).saturating_sub(at) / 8;
     // The end decides, not the bytes left: past the end an empty slice asks for no more than these, and is refused.
     if len < end {
         return Err(BitRefusal::OutOfBytes {

@@ -5,28 +5,21 @@ ghost use Rattle.std.proofs.Math.Seq.{paste};
 ghost use Rattle.bits.specs.Bits.{bits_at, written};
 ghost use Rattle.bits.specs.Patch.{patch};
 
-use crate::limits::least;
 use halves::{left, ones, right};
-
-fn wide(x: u8) -> u64
-    ensures { result ≡ x }
-{
-    x as u64
-}
 
 // The 8 bytes from byte q on, as a number. The compiler makes one load of them.
 fn word(s: &[u8], q: usize) -> u64
     requires { q + 8 ≤ length s.now }
     ensures { result ≡ bits_at s.now (q * 8) 64 }
 {
-    wide(s[q])
-        | (wide(s[q + 1]) << 8)
-        | (wide(s[q + 2]) << 16)
-        | (wide(s[q + 3]) << 24)
-        | (wide(s[q + 4]) << 32)
-        | (wide(s[q + 5]) << 40)
-        | (wide(s[q + 6]) << 48)
-        | (wide(s[q + 7]) << 56)
+    u64::from(s[q])
+        | (u64::from(s[q + 1]) << 8)
+        | (u64::from(s[q + 2]) << 16)
+        | (u64::from(s[q + 3]) << 24)
+        | (u64::from(s[q + 4]) << 32)
+        | (u64::from(s[q + 5]) << 40)
+        | (u64::from(s[q + 6]) << 48)
+        | (u64::from(s[q + 7]) << 56)
 }
 
 // n bits from bit `at` on: out of one word where they lie in one. Near the buffer's end that is its
@@ -36,7 +29,7 @@ pub(crate) fn gather(s: &[u8], at: usize, n: usize) -> u64
     ensures { result ≡ bits_at s.now at n }
 {
     if 8 <= s.len() {
-        let q = least(at / 8, s.len() - 8);
+        let q = (at / 8).min(s.len() - 8);
         let o = at - q * 8;
         if o + n <= 64 {
             let w = word(s, q);
@@ -57,8 +50,8 @@ fn gather_slow(s: &[u8], at: usize, n: usize) -> u64
         let p = at + k;
         let o = p % 8;
         let q = p / 8;
-        let t = least(8 - o, n - k);
-        let b = wide(s[q]);
+        let t = (8 - o).min(n - k);
+        let b = u64::from(s[q]);
         let m = ones(t);
         r = r | left(right(b, o) & m, k);
         k = k + t;
@@ -71,7 +64,7 @@ fn patched(b: u8, o: usize, t: usize, x: u64) -> u8
     requires { o + t ≤ 8 }
     ensures { result ≡ patch b o t x }
 {
-    let w = wide(b);
+    let w = u64::from(b);
     let m = ones(t);
     ((w & !left(m, o)) | left(x & m, o)) as u8
 }
@@ -104,7 +97,7 @@ pub(crate) fn scatter(s: &mut [u8], at: usize, n: usize, v: u64)
     ensures { s.new ≡ written s.old at n v }
 {
     if 8 <= s.len() {
-        let q = least(at / 8, s.len() - 8);
+        let q = (at / 8).min(s.len() - 8);
         let o = at - q * 8;
         if o + n <= 64 {
             let w = word(s, q);
@@ -126,7 +119,7 @@ fn scatter_slow(s: &mut [u8], at: usize, n: usize, v: u64)
         let p = at + k;
         let o = p % 8;
         let q = p / 8;
-        let t = least(8 - o, n - k);
+        let t = (8 - o).min(n - k);
         s[q] = patched(s[q], o, t, right(v, k));
         k = k + t;
     }

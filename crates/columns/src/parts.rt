@@ -2,7 +2,7 @@
 ghost use Rattle.std.specs.Prelude.{◌-◌, ◌≤◌, ◌≡◌, length, take, drop};
 ghost use Rattle.columns.specs.Parts.{space, part_end_lem, field, marks_in};
 
-use bits::{ByteCount, Part, least};
+use bits::{ByteCount, Part};
 
 // The bytes from `from` up to `end`, as far as there are any.
 pub fn part(s: &[u8], from: usize, end: usize) -> &[u8]
@@ -21,7 +21,7 @@ pub fn part_end(s: &[u8], from: usize, mark: u8) -> usize
     ensures value { result ≡ part_end_lem mark from s.now }
     ensures upper_bound { result ≤ length s.now }
 {
-    let mut i = least(from, s.len());
+    let mut i = from.min(s.len());
     while i < s.len() {
         if s[i] == mark {
             return i;

@@ -4,7 +4,6 @@ ghost use Rattle.tables.specs.Table.{table_of};
 ghost use Rattle.walking.specs.Walk.{place_of};
 ghost use Rattle.records.specs.Stretches.{Insides, Plains, Clear, UpTo, Quiet, is_inside_lem};
 
-use bits::least;
 use walking::Place;
 
 fn is_inside(words: &[u64], i: usize) -> bool
@@ -55,10 +54,10 @@ fn clear_of(words: &[u64], k: usize, i: usize, end: usize) -> usize
     let start = set.start;
     let size = set.size;
     if i <= start {
-        return least(start, end);
+        return start.min(end);
     }
     if i < start + size {
-        return least(i, end);
+        return i.min(end);
     }
     end
 }

@@ -9,7 +9,7 @@ use Rattle.bits.proofs.runs.gather.Goals as goal
 
 pub returns-then-o-n-le64 : goal.returns-then-o-n-le64
 returns-then-o-n-le64 c =
-    let o : ℕ = c.args.at - c.least-q.result * 8 in
-    let e : c.least-q.result * 8 + o ≡ c.args.at = omega arith in
+    let o : ℕ = c.args.at - c.min-q.result * 8 in
+    let e : c.min-q.result * 8 + o ≡ c.args.at = omega arith in
     let m = c.ones.ensures ∙ asked c.args.n (omega arith) ∙ sym (mask c.args.n (omega arith)) in
-    rw (m, c.right.ensures, c.word-w.ensures) (taken c.args.s.now c.least-q.result o c.args.n c.if-o-n-le64.true ∙ ap (λ (p : ℕ). bits_at c.args.s.now p c.args.n) e)
+    rw (m, c.right.ensures, c.word-w.ensures) (taken c.args.s.now c.min-q.result o c.args.n c.if-o-n-le64.true ∙ ap (λ (p : ℕ). bits_at c.args.s.now p c.args.n) e)

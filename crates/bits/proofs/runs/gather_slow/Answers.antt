@@ -13,7 +13,7 @@ loop-k-init c = (omega arith, refl)
 
 pub loop-k-preserved : goal.loop-k-preserved
 loop-k-preserved c =
-    let in_one : (c.args.at + c.loop-k.k) % 8 + c.least-t.result ≤ 8 = omega arith in
-    let in_all : c.loop-k.k + c.least-t.result ≤ 64 = omega arith in
-    let m = c.ones-m.ensures ∙ asked c.least-t.result (omega arith) ∙ sym (ap (λ (x : ℕ). x - 1) (one_shl c.least-t.result (omega arith))) in
-    (omega arith, rw (c.left-r.ensures, c.right.ensures, m, c.loop-k.invariant.1, c.wide-b.ensures) (turn c.args.s.now c.args.at c.loop-k.k c.least-t.result in_one in_all))
+    let in_one : (c.args.at + c.loop-k.k) % 8 + c.min-t.result ≤ 8 = omega arith in
+    let in_all : c.loop-k.k + c.min-t.result ≤ 64 = omega arith in
+    let m = c.ones-m.ensures ∙ asked c.min-t.result (omega arith) ∙ sym (ap (λ (x : ℕ). x - 1) (one_shl c.min-t.result (omega arith))) in
+    (omega arith, rw (c.left-r.ensures, c.right.ensures, m, c.loop-k.invariant.1, c.from-b.ensures) (turn c.args.s.now c.args.at c.loop-k.k c.min-t.result in_one in_all))

@@ -18,8 +18,8 @@ code b o t x {w} {m} {l} {r} room byte w-is m-is l-is r-is =
 
 pub overflow_cast-result : goal.overflow_cast-result
 overflow_cast-result c =
-    rw (code _ _ _ _ c.requires c.ranges.b.fits c.wide-w.ensures c.ones-m.ensures c.left.ensures c.left-2.ensures)
+    rw (code _ _ _ _ c.requires c.ranges.b.fits c.from-w.ensures c.ones-m.ensures c.left.ensures c.left-2.ensures)
     (record { fits = patch-lt _ _ _ _ c.requires c.ranges.b.fits })
 
 pub returns : goal.returns
-returns c = code _ _ _ _ c.requires c.ranges.b.fits c.wide-w.ensures c.ones-m.ensures c.left.ensures c.left-2.ensures
+returns c = code _ _ _ _ c.requires c.ranges.b.fits c.from-w.ensures c.ones-m.ensures c.left.ensures c.left-2.ensures

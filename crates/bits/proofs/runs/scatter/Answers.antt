@@ -12,13 +12,13 @@ use Rattle.bits.proofs.runs.scatter.Goals as goal
 
 pub returns-then-o-n-le64 : goal.returns-then-o-n-le64
 returns-then-o-n-le64 c =
-    let o : ℕ = c.args.at - c.least-q.result * 8 in
+    let o : ℕ = c.args.at - c.min-q.result * 8 in
     let inside : o + c.args.n ≤ 64 = c.if-o-n-le64.true in
-    let e : c.least-q.result * 8 + o ≡ c.args.at = omega arith in
-    let fits : c.word-w.result < 2 ^ 64 = subst (λ (x : ℕ). x < 2 ^ 64) (sym c.word-w.ensures) (bits-lt c.args.s.now (c.least-q.result * 8) 64) in
+    let e : c.min-q.result * 8 + o ≡ c.args.at = omega arith in
+    let fits : c.word-w.result < 2 ^ 64 = subst (λ (x : ℕ). x < 2 ^ 64) (sym c.word-w.ensures) (bits-lt c.args.s.now (c.min-q.result * 8) 64) in
     c.put_word.ensures
-    ∙ ap (written c.args.s.now (c.least-q.result * 8) 64)
+    ∙ ap (written c.args.s.now (c.min-q.result * 8) 64)
     (rw (c.left-then-o-n-le64.ensures, c.left.ensures) (mask-code c.word-w.result o c.args.n c.args.v _ (c.ones-m.ensures ∙ asked c.args.n (omega arith)) inside fits))
-    ∙ ap (λ (x : ℕ). written c.args.s.now (c.least-q.result * 8) 64 (patch x o c.args.n c.args.v)) c.word-w.ensures
-    ∙ in-word c.args.s.now (c.least-q.result * 8) o c.args.n c.args.v inside
+    ∙ ap (λ (x : ℕ). written c.args.s.now (c.min-q.result * 8) 64 (patch x o c.args.n c.args.v)) c.word-w.ensures
+    ∙ in-word c.args.s.now (c.min-q.result * 8) o c.args.n c.args.v inside
     ∙ ap (λ (x : ℕ). written c.args.s.now x c.args.n c.args.v) e

@@ -12,12 +12,12 @@ loop-k-init c = (omega arith, (refl, none c.args.s.now c.args.at c.args.v (λ i.
 
 pub loop-k-preserved : goal.loop-k-preserved
 loop-k-preserved c =
-    let in_one : (c.args.at + c.loop-k.k) % 8 + c.least-t.result ≤ 8 = omega arith in
-    let in_all : c.args.at + (c.loop-k.k + c.least-t.result) ≤ length c.args.s.now * 8 = omega arith in
-    let some : 0 < c.least-t.result = omega arith in (
+    let in_one : (c.args.at + c.loop-k.k) % 8 + c.min-t.result ≤ 8 = omega arith in
+    let in_all : c.args.at + (c.loop-k.k + c.min-t.result) ≤ length c.args.s.now * 8 = omega arith in
+    let some : 0 < c.min-t.result = omega arith in (
       omega arith,
       (
         length-set c.loop-k.s _ _ ∙ c.loop-k.invariant.1.0,
-        rw (c.patched.ensures, c.right.ensures, c.loop-k.invariant.1.1) (stored c.args.s.now c.args.at c.loop-k.k c.least-t.result c.args.v in_one in_all some),
+        rw (c.patched.ensures, c.right.ensures, c.loop-k.invariant.1.1) (stored c.args.s.now c.args.at c.loop-k.k c.min-t.result c.args.v in_one in_all some),
       ),
     )
