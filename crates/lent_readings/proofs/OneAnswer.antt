@@ -17,13 +17,6 @@ use Rattle.reading.specs.Filling.{run_after}
 use Rattle.reading.specs.Decode.{decoded_of_lem}
 use Rattle.lent_readings.specs.Run.{entries_after}
 use Rattle.lent_readings.specs.contracts.decode as decode
-use Rattle.lent_readings.proofs.steps.fresh.Reads as fresh
-use Rattle.lent_readings.proofs.steps.turn.Reads as turn
-use Rattle.lent_readings.proofs.steps.stores.Reads as stores
-use Rattle.lent_readings.proofs.steps.place_of.Reads as place_of
-use Rattle.lent_readings.proofs.steps.reading_of.Reads as reading-of
-use Rattle.lent_readings.proofs.steps.is_over.Reads as is-over
-use Rattle.lent_readings.proofs.steps.decoded_of.Reads as decoded-of
 
 -- the contract of `decode`: of words, received payload, padding run and run of readings
 abbrev pub Decode : (κs : Lfts 4) → Args decode.signature κs → Res decode.signature κs → AtExit decode.ended κs → Type 0
@@ -48,29 +41,3 @@ module _ {M : Type 1} {𝓤 : Ura M} (𝓛 : Logic 𝓤) (mem : Memory → SProp
 
   is-decode : decode.clauses 𝓛 mem run ≡ plainly
   is-decode = refl
-
--- The turns.
-
-one-fresh : Fixes fresh.Post (λ κs x s. x)
-one-fresh = fixed (λ κs a x s p. p)
-
-one-turn : Fixes turn.Post (λ κs x s. x)
-one-turn = fixed (λ κs a x s p. p.0)
-
-same_turn : Fixes turn.Post (λ κs x s. s.1.1.0.now)
-same_turn = fixed (λ κs a x s p. p.1)
-
-one-stores : Fixes stores.Post (λ κs x s. x)
-one-stores = fixed (λ κs a x s p. p)
-
-one-place-of : Fixes place_of.Post (λ κs x s. x)
-one-place-of = fixed (λ κs a x s p. p)
-
-one-reading-of : Fixes reading-of.Post (λ κs x s. x)
-one-reading-of = fixed (λ κs a x s p. p)
-
-one-is-over : Fixes is-over.Post (λ κs x s. x)
-one-is-over = fixed (λ κs a x s p. p)
-
-one-decoded-of : Fixes decoded-of.Post (λ κs x s. x)
-one-decoded-of = fixed (λ κs a x s p. p)

@@ -1,42 +1,25 @@
--- The turns of a decode into a lent run, with no memory in them: where one may begin (`Holds`), what each leaves (`stored`, `went`), and what holds where they
--- stop (`ends`). The run is of readings, or of what is made of each. Assumes nothing.
-use mathlib.Core.Path.{◌≡◌, refl, sym, ap, ◌∙◌, subst}
-use mathlib.Core.Bool.{Bool, true, false}
-use mathlib.Core.List.{List, [], ◌∷◌, ◌++◌, append-nil}
-use Prim.Native.Nat.{ℕ, suc, ◌<◌}
-use native.Mathlib.Omega.{arith}
-use Rattle.std.specs.Prelude.{Result, Ok, Err}
-use lib.ListN.{length, set}
-use Rattle.bits.specs.Bits.{pick}
+-- The turns of a decode into a lent run, of readings or of what is made of each: where one may begin (`Storing`), where its reading has its place (`seats`), what
+-- it leaves (`stored-on`), and what holds where they stop (`ends`). Assumes nothing.
+use Rattle.std.specs.Prelude.{◌≡◌, ℕ, ◌<◌, false, List, [], ◌∷◌, ◌++◌, length, map, set, Option, Some, None, Result, Ok, Err}
+use Rattle.std.proofs.Common.{refl, sym, ap, ◌∙◌, subst, arith}
+use Rattle.std.proofs.lemmas.List.{length-map, map-append}
+use mathlib.Core.List.{append-nil}
 use Rattle.tables.specs.Table.{Table}
+use Rattle.tables.specs.Check.{check_of}
 use Rattle.fields.specs.declared.DecodeRefusal.{DecodeRefusal}
-use Rattle.fields.specs.Payload.{Payload, payload_of}
+use Rattle.fields.specs.Payload.{Payload}
 use Rattle.reading.specs.declared.Reading.{Reading}
 use Rattle.reading.specs.declared.Answer.{Answer}
-use Rattle.reading.specs.declared.Answer.TheVariants as answer
-use Rattle.reading.specs.declared.Next.{Next}
+use Rattle.reading.specs.declared.Answer.TheVariants.{Met, Skipped, Moved, Ended}
 use Rattle.reading.specs.declared.Decoded.{Decoded}
-use Rattle.reading.specs.Filling.{working_of, prepared_of, run_after}
-use Rattle.reading.specs.Decode.{readings, decoded_in, decoded_of_lem, read_into, readings_of, walk_of, end_of}
-use Rattle.reading.specs.Steps.{next_of, start_of, goes_on_lem, handed}
-use Rattle.reading.proofs.Looped.{Going, heft, going, Turned, turned}
+use Rattle.reading.specs.declared.Next.{Next}
+use Rattle.reading.specs.declared.Walk.{Walk}
+use Rattle.reading.specs.Decode.{readings, spans_of, walk_of, end_of}
+use Rattle.reading.specs.Steps.{next_of, start_of, goes_on_lem, came_to_lem, handed}
+use Rattle.reading.proofs.Looped.{Going, heft, going, Turned, leaves, goes-on, came-last, comes-to}
 use Rattle.reading.proofs.Seated.{met-room}
-use Rattle.reading.proofs.Working.{picked-working, ready-accepted}
-use Rattle.lent_readings.specs.declared.Step.{Step}
-use Rattle.lent_readings.specs.Run.{entries_of}
-use Rattle.lent_readings.specs.Steps.{fresh_step, on_step, begun_by, answered_by, turned_by_lem, step_of, padded_after}
-
--- what a run holds: something of each reading
-pub record Kind (X : Type 0) : Type 0 where
-  pub one : Reading → X
-  pub all : List Reading → List X
-  pub none : all [] ≡ []
-  pub more : (rs : List Reading) (r : Reading) → all (rs ++ r ∷ []) ≡ all rs ++ one r ∷ []
-  pub long : (rs : List Reading) → length (all rs) ≡ length rs
-
--- the readings themselves
-abbrev pub itself : Kind Reading
-itself = record { one = λ r. r; all = λ rs. rs; none = refl; more = λ rs r. refl; long = λ rs. refl }
+use Rattle.lent_readings.specs.Run.{entries_of, placed}
+use Rattle.lent_readings.specs.Clauses.{Seats}
 
 -- one more in a run that has room for it
 set_more : {X : Type 0} (xs ys : List X) (x : X) → length xs < length ys → set (entries_of xs ys) (length xs) x ≡ entries_of (xs ++ x ∷ []) ys
@@ -49,158 +32,77 @@ none_read : (rs : List Reading) → 0 ≡ length rs → rs ≡ []
 none_read [] h = refl
 none_read (r ∷ rs) h = absurd (omega (arith, h))
 
-module _ {X : Type 0} (K : Kind X) (t : Table) (received pad₀ : List ℕ) (ys : List X) where
-  abbrev p : Payload
-  p = payload_of (working_of t received)
+-- the last turn hands out nothing
+none-handed : (a : Result Answer DecodeRefusal) → goes_on_lem a ≡ false → handed a ≡ []
+none-handed (Ok (Met r)) o = let y : ◌≡◌ {A = ℕ} 0 1 = cc in absurd (omega arith)
+none-handed (Ok (Skipped v)) o = refl
+none-handed (Ok Moved) o = refl
+none-handed (Ok Ended) o = refl
+none-handed (Err f) o = refl
 
-  abbrev room : ℕ
-  room = length ys
+-- the readings themselves are what is made of them
+pub map-same : (rs : List Reading) → map (λ r. r) rs ≡ rs
+map-same [] = refl
+map-same (r ∷ rs) = ap (λ (qs : List Reading). r ∷ qs) (map-same rs)
 
-  -- what the call is to leave
-  abbrev pub answers : Decoded
-  answers = decoded_of_lem t received (length pad₀) room
-
-  abbrev pub padding : List ℕ
-  padding = run_after t received pad₀
-
-  abbrev pub entries : List X
-  entries = entries_of (K.all (readings_of t received (length pad₀) room)) ys
-
-  -- the run with these readings in it
+module _ {X : Type 0} (one : Reading → X) (t : Table) (p : Payload) (room : ℕ) (ys : List X) where
+  -- the run with what is made of these readings in it
   abbrev kept : List Reading → List X
-  kept rs = entries_of (K.all rs) ys
+  kept rs = entries_of (map one rs) ys
 
-  kept_more : (rs : List Reading) (r : Reading) → length rs < room → set (kept rs) (length rs) (K.one r) ≡ kept (rs ++ r ∷ [])
+  kept_more : (rs : List Reading) (r : Reading) → length rs < length ys → set (kept rs) (length rs) (one r) ≡ kept (rs ++ r ∷ [])
   kept_more rs r l =
-      ap (λ (n : ℕ). set (kept rs) n (K.one r)) (sym (K.long rs)) ∙ set_more (K.all rs) ys (K.one r) (subst (λ (n : ℕ). n < room) (sym (K.long rs)) l)
-      ∙ ap (λ (xs : List X). entries_of xs ys) (sym (K.more rs r))
+      let m : length (map one rs) ≡ length rs = length-map rs one in
+      ap (λ (n : ℕ). set (kept rs) n (one r)) (sym m) ∙ set_more (map one rs) ys (one r) (subst (λ (n : ℕ). n < length ys) (sym m) l)
+      ∙ ap (λ (xs : List X). entries_of xs ys) (sym (map-append one rs (r ∷ [])))
 
-  kept-none : (rs : List Reading) → 0 ≡ length rs → ys ≡ kept rs
-  kept-none rs h = sym (ap kept (none_read rs h) ∙ ap (λ (xs : List X). entries_of xs ys) K.none)
+  -- what a turn hands out, after what was handed out before it
+  kept-handed : (rs : List Reading) (a : Result Answer DecodeRefusal) → Seats a (length rs) (length ys) → placed one (kept rs) (length rs) a ≡ kept (rs ++ handed a)
+  kept-handed rs (Ok (Met r)) h = kept_more rs r (h r refl)
+  kept-handed rs (Ok (Skipped v)) h = ap kept (sym (append-nil rs))
+  kept-handed rs (Ok Moved) h = ap kept (sym (append-nil rs))
+  kept-handed rs (Ok Ended) h = ap kept (sym (append-nil rs))
+  kept-handed rs (Err f) h = ap kept (sym (append-nil rs))
 
-  abbrev ready : Type 0
-  ready = prepared_of t (length received) (length pad₀) ≡ Ok tt
+  -- where a turn may begin: what is made of the readings so far is stored
+  pub record Storing (w : Walk) (cur : List X) : Type 0 where
+    pub full : room ≡ length ys
+    pub still : Going t p room w
+    pub puts : cur ≡ kept (readings t p still.done)
 
-  -- where a turn may begin: nothing is done yet, or the readings made so far are stored
-  pub data Holds (c : Step) (pad : List ℕ) (cur : List X) : Type 0 where
-    first : c ≡ fresh_step → pad ≡ pad₀ → cur ≡ ys → Holds c pad cur
-    later : c.fresh ≡ false → ready → (g : Going t p room c.walk) → pad ≡ padding → cur ≡ kept (readings t p g.done) → Holds c pad cur
+  pub begins : room ≡ length ys → Storing start_of ys
+  begins l = record { full = l; still = going t p room; puts = sym (ap kept (none_read (readings t p (going t p room).done) (going t p room).made)) }
 
-  -- how far it is to the end at most
-  abbrev pub weight : Step → ℕ
-  weight c = pick c.fresh (suc (heft t p room start_of)) (heft t p room c.walk)
+  module _ {w : Walk} {cur : List X} (h : Storing w cur) {n : Next} (e : n ≡ next_of t p room w) where
+    -- a reading that is handed out has its place
+    pub seats : Seats n.answer w.progress.made (length ys)
+    seats r m = subst (λ (k : ℕ). w.progress.made < k) h.full (met-room t p room w r (sym (ap (λ (x : Next). x.answer) e) ∙ m))
 
-  -- what a turn from c leaves
-  pub record Left (c : Step) (cur : List X) (d : Step) (pad : List ℕ) : Type 0 where
-    pub inside : d.stores ≡ true → d.place < room
-    pub stored : d.stores ≡ true → Holds d pad (set cur d.place (K.one d.reading)) × (weight d < weight c)
-    pub went : d.stores ≡ false → d.over ≡ false → Holds d pad cur × (weight d < weight c)
-    pub ends : d.stores ≡ false → d.over ≡ true → (d.decoded ≡ answers) × ((pad ≡ padding) × (cur ≡ entries))
+    -- the run after it
+    laid : placed one cur w.progress.made n.answer ≡ kept (readings t p h.still.done ++ handed n.answer)
+    laid =
+        let m = h.still.made in
+        ap (λ (xs : List X). placed one xs w.progress.made n.answer) h.puts ∙ ap (λ (k : ℕ). placed one (kept (readings t p h.still.done)) k n.answer) m
+        ∙ kept-handed (readings t p h.still.done) n.answer (λ r q. subst (λ (k : ℕ). k < length ys) m (seats r q))
 
-  -- the other answers of a test
-  not-true : {A : Type 0} → ◌≡◌ {A = Bool} false true → A
-  not-true h = let y : ◌≡◌ {A = ℕ} 0 1 = cc in absurd (omega arith)
+    module _ (ok : check_of t ≡ Ok tt) where
+      after : Turned t p room w h.still n
+      after = leaves t p room ok h.still e
 
-  not-false : {A : Type 0} → ◌≡◌ {A = Bool} true false → A
-  not-false h = let y : ◌≡◌ {A = ℕ} 0 1 = cc in absurd (omega arith)
+      module _ {m : Option Decoded} (q : m ≡ came_to_lem n) {new : List X} (s : new ≡ placed one cur w.progress.made n.answer) where
+        -- a turn after which the walk goes on: it has come nearer to its end
+        pub stored-on : m ≡ None → Storing n.walk new × (heft t p room n.walk < heft t p room w)
+        stored-on o =
+            let y = after.on (goes-on n q o) in
+            (record { full = h.full; still = y.still; puts = s ∙ laid ∙ ap kept (sym y.hands) }, y.less)
 
-  -- the first turn
-  begins : (c : Step) → c.fresh ≡ true → (q : Result (Unit {0}) DecodeRefusal) → prepared_of t (length received) (length pad₀) ≡ q → Left c ys (begun_by q) padding
-  begins c f (Ok tt) e = record {
-    inside = λ h. not-true h;
-    stored = λ h. not-true h;
-    went = λ _ _. (later refl e (going t p room) refl (kept-none (readings t p (going t p room).done) (going t p room).made), subst (λ (b : Bool). heft t p room start_of < pick b (suc (heft t p room start_of)) (heft t p room c.walk)) (sym f) (omega arith));
-    ends = λ _ h. not-true h;
-  }
-  begins c f (Err x) e = record {
-    inside = λ h. not-true h;
-    stored = λ h. not-true h;
-    went = λ _ h. not-false h;
-    ends = λ _ _. (
-      ap (λ (q : Result (Unit {0}) DecodeRefusal). decoded_in q t p room) (sym e),
-      (refl, sym (ap (λ (q : Result (Unit {0}) DecodeRefusal). kept (read_into q t p room)) e ∙ ap (λ (xs : List X). entries_of xs ys) K.none)),
-    );
-  }
-
-  -- each other one
-  module _ (c : Step) (f : c.fresh ≡ false) (ok : ready) (g : Going t p room c.walk) where
-    abbrev n : Next
-    n = next_of t p room c.walk
-
-    abbrev made : ℕ
-    made = c.walk.progress.made
-
-    abbrev so_far : List X
-    so_far = kept (readings t p g.done)
-
-    after : Turned t p room c.walk g n
-    after = turned t p room (ready-accepted t received pad₀ ok) c.walk g
-
-    lighter : (m : ℕ) → m < heft t p room c.walk → m < weight c
-    lighter m l = subst (λ (b : Bool). m < pick b (suc (heft t p room start_of)) (heft t p room c.walk)) (sym f) l
-
-    -- a turn that hands out nothing and goes on
-    quiet : goes_on_lem n.answer ≡ true → handed n.answer ≡ [] → Holds (on_step n.walk) padding so_far × (weight (on_step n.walk) < weight c)
-    quiet o h =
-        let y = after.on o in (
-          later refl ok y.still refl (ap kept (sym (y.hands ∙ ap (λ (rs : List Reading). readings t p g.done ++ rs) h ∙ append-nil (readings t p g.done)))),
-          lighter _ y.less,
-        )
-
-    -- one that ends the walk
-    last : (d : Decoded) → goes_on_lem n.answer ≡ false → end_of t p (walk_of t p room) ≡ d → (d ≡ answers) × ((padding ≡ padding) × (so_far ≡ entries))
-    last d o e = (
-      sym e ∙ ap (λ (q : Result (Unit {0}) DecodeRefusal). decoded_in q t p room) (sym ok),
-      (refl, ap kept (sym (after.last o)) ∙ ap (λ (q : Result (Unit {0}) DecodeRefusal). kept (read_into q t p room)) (sym ok)),
-    )
-
-    goes : (a : Result Answer DecodeRefusal) → n.answer ≡ a → Left c so_far (answered_by a n.walk made) padding
-    goes (Ok (answer.Met r)) e = record {
-      inside = λ _. met-room t p room c.walk r e;
-      stored = λ _.
-          let y = after.on (ap goes_on_lem e) in
-          let m : made ≡ length (readings t p g.done) = g.made in
-          let l : length (readings t p g.done) < room = subst (λ (k : ℕ). k < room) m (met-room t p room c.walk r e) in (
-            later refl ok y.still refl (
-                ap (λ (k : ℕ). set so_far k (K.one r)) m ∙ kept_more (readings t p g.done) r l
-                ∙ ap kept (sym (y.hands ∙ ap (λ (x : Result Answer DecodeRefusal). readings t p g.done ++ handed x) e))),
-            lighter _ y.less,
-          );
-      went = λ h. not-false h;
-      ends = λ h. not-false h;
-    }
-    goes (Ok (answer.Skipped v)) e = record { inside = λ h. not-true h; stored = λ h. not-true h; went = λ _ _. quiet (ap goes_on_lem e) (ap handed e); ends = λ _ h. not-true h }
-    goes (Ok answer.Moved) e = record { inside = λ h. not-true h; stored = λ h. not-true h; went = λ _ _. quiet (ap goes_on_lem e) (ap handed e); ends = λ _ h. not-true h }
-    goes (Ok answer.Ended) e = record { inside = λ h. not-true h; stored = λ h. not-true h; went = λ _ h. not-false h; ends = λ _ _. last _ (ap goes_on_lem e) (after.ends e) }
-    goes (Err x) e = record { inside = λ h. not-true h; stored = λ h. not-true h; went = λ _ h. not-false h; ends = λ _ _. last _ (ap goes_on_lem e) (after.stops x e) }
-
-    stepped : step_of t received padding room c ≡ answered_by n.answer n.walk made
-    stepped = rw f (ap (λ (l : List ℕ). turned_by_lem (next_of t (payload_of l) room c.walk) made) (picked-working t received pad₀ ok))
-
-  leaves : (c : Step) (pad : List ℕ) (cur : List X) (pad' : List ℕ) (cur' : List X) → pad ≡ pad' → cur ≡ cur' → (d : Step) (pad'' : List ℕ)
-      → step_of t received pad' room c ≡ d → padded_after t received pad' c ≡ pad'' → Left c cur' d pad'' → Left c cur (step_of t received pad room c) (padded_after t received pad c)
-  leaves c pad cur pad' cur' q r d pad'' e h l =
-      subst (λ (x : List ℕ). Left c cur (step_of t received x room c) (padded_after t received x c)) (sym q)
-      (subst (λ (zs : List X). Left c zs (step_of t received pad' room c) (padded_after t received pad' c)) (sym r)
-      (subst (λ (x : Step). Left c cur' x (padded_after t received pad' c)) (sym e) (subst (λ (x : List ℕ). Left c cur' d x) (sym h) l)))
-
-  -- a turn from where one may begin
-  pub turns : (c : Step) (pad : List ℕ) (cur : List X) → Holds c pad cur → Left c cur (step_of t received pad room c) (padded_after t received pad c)
-  turns c pad cur (first e q r) =
-      let f : c.fresh ≡ true = ap (λ (x : Step). x.fresh) e in
-      leaves c pad cur pad₀ ys q r (begun_by (prepared_of t (length received) (length pad₀))) padding (rw f refl) (rw f refl) (begins c f (prepared_of t (length received) (length pad₀)) refl)
-  turns c pad cur (later f ok g q r) =
-      leaves c pad cur padding (kept (readings t p g.done)) q r _ padding (stepped c f ok g) (rw f refl) (goes c f ok g (next_of t p room c.walk).answer refl)
-
-  -- what a turn of the code leaves, which answered d, left the padding run as pad' and had room for n
-  pub left : {c : Step} {pad : List ℕ} {cur : List X} {n : ℕ} {d : Step} {pad' : List ℕ}
-      → Holds c pad cur → n ≡ room → (d ≡ step_of t received pad n c) × (pad' ≡ padded_after t received pad c) → Left c cur d pad'
-  left {c} {pad} {cur} {n} {d} {pad'} h l e =
-      subst (λ (y : Step). Left c cur y pad') (sym (e.0 ∙ ap (λ (m : ℕ). step_of t received pad m c) l))
-      (subst (λ (q : List ℕ). Left c cur (step_of t received pad room c) q) (sym e.1) (turns c pad cur h))
-
-  -- where the next turn begins once the reading is stored, at its place n and as x
-  pub stored-at : {c : Step} {cur : List X} {d : Step} {pad : List ℕ} {n : ℕ} {x : X}
-      → Left c cur d pad → d.stores ≡ true → n ≡ d.place → x ≡ K.one d.reading → Holds d pad (set cur n x)
-  stored-at {c} {cur} {d} {pad} {n} {x} l s e f =
-      subst (λ (m : ℕ). Holds d pad (set cur m x)) (sym e) (subst (λ (y : X). Holds d pad (set cur d.place y)) (sym f) (l.stored s).0)
+        -- the last one
+        pub ends : {d : Decoded} → m ≡ Some d
+            → (d ≡ end_of t p (walk_of t p (length ys))) × (new ≡ entries_of (map one (readings t p (spans_of (walk_of t p (length ys))))) ys)
+        ends {d} o =
+            let c = sym q ∙ o in
+            let z = came-last n.answer n.walk.progress d c in
+            let all : readings t p h.still.done ++ handed n.answer ≡ readings t p (spans_of (walk_of t p room)) =
+            ap (λ (rs : List Reading). readings t p h.still.done ++ rs) (none-handed n.answer z) ∙ append-nil (readings t p h.still.done) ∙ sym (after.last z) in
+            subst (λ (k : ℕ). (d ≡ end_of t p (walk_of t p k)) × (new ≡ kept (readings t p (spans_of (walk_of t p k))))) h.full
+            (sym (comes-to t p room ok w h.still n after d c), s ∙ laid ∙ ap kept all)

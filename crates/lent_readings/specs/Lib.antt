@@ -1,3 +1,2 @@
 pub mod Clauses
 pub mod Run
-pub mod Steps

@@ -1,22 +1,11 @@
--- The structs of a list of readings. Assumes nothing.
-use mathlib.Core.Path.{◌≡◌, refl, ap}
-use mathlib.Core.List.{List, [], ◌∷◌, ◌++◌}
-use Prim.Native.Nat.{suc}
-use lib.ListN.{length}
+-- The structs of a list of readings are what is made of each. Assumes nothing.
+use Rattle.std.specs.Prelude.{◌≡◌, List, [], ◌∷◌, map}
+use Rattle.std.proofs.Common.{refl, ap}
 use Rattle.reading.specs.declared.Reading.{Reading}
 use Rattle.structs.specs.declared.Record.{Record}
 use Rattle.structs.specs.Structs.{struct_of, structs}
 
-pub structs-none : structs [] ≡ []
+pub structs-map : (rs : List Reading) → map struct_of rs ≡ structs rs
 unfolding structs
-structs-none = refl
-
-pub structs-more : (rs : List Reading) (r : Reading) → structs (rs ++ r ∷ []) ≡ structs rs ++ struct_of r ∷ []
-unfolding structs
-structs-more [] r = refl
-structs-more (x ∷ rs) r = ap (λ (l : List Record). struct_of x ∷ l) (structs-more rs r)
-
-pub structs-long : (rs : List Reading) → length (structs rs) ≡ length rs
-unfolding structs
-structs-long [] = refl
-structs-long (x ∷ rs) = ap suc (structs-long rs)
+structs-map [] = refl
+structs-map (r ∷ rs) = ap (λ (l : List Record). struct_of r ∷ l) (structs-map rs)

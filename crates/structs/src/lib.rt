@@ -10,8 +10,8 @@ ghost use Rattle.std.specs.Prelude.{◌≡◌};
 ghost use Rattle.structs.specs.Structs.{struct_of};
 ghost use Rattle.structs.specs.Clauses.{DecodesRun};
 
-use lent_readings::Step;
-use reading::Decoded;
+use lent_readings::Entry;
+use reading::{Decoded, Reading};
 
 mod bytes;
 
@@ -36,37 +36,35 @@ pub struct Record {
     pub length: u64,
 }
 
-// The struct of the reading that a step has.
-pub fn record_of(c: Step) -> Record
-    ensures { result ≡ struct_of c.reading }
+// The struct of a reading.
+pub fn record_of(r: Reading) -> Record
+    ensures { result ≡ struct_of r }
 {
-    let r = c.reading;
-    let field = r.field;
-    let e = r.element;
-    let start = r.start;
-    let bits = r.bits;
-    let raw = r.raw;
-    let value = r.value;
-    let availability = r.availability;
-    let b = records::bytes_in(value);
-    let encoding = b.encoding;
-    let len = b.len;
+    let b = records::bytes_in(r.value);
     Record {
-        field: field as u64,
-        element: records::element_word(e),
-        start: start.0 as u64,
-        bits: bits.0 as u64,
-        availability: bytes::availability(availability),
-        value_kind: bytes::value_kind(value),
-        has_raw: bytes::has_raw(raw),
-        has_encoding: bytes::has_encoding(encoding),
-        encoding: bytes::encoding(encoding),
+        field: r.field as u64,
+        element: records::element_word(r.element),
+        start: r.start.0 as u64,
+        bits: r.bits.0 as u64,
+        availability: bytes::availability(r.availability),
+        value_kind: bytes::value_kind(r.value),
+        has_raw: bytes::has_raw(r.raw),
+        has_encoding: bytes::has_encoding(b.encoding),
+        encoding: bytes::encoding(b.encoding),
         reserved_0: 0,
         reserved_1: 0,
         reserved_2: 0,
-        raw: records::raw_word(raw),
-        value: records::value_word(value),
-        length: len.0 as u64,
+        raw: records::raw_word(r.raw),
+        value: records::value_word(r.value),
+        length: b.len.0 as u64,
+    }
+}
+
+impl Entry for Record {
+    ghost one = { struct_of };
+
+    fn of(reading: Reading) -> Record {
+        record_of(reading)
     }
 }
 
@@ -75,16 +73,5 @@ pub fn record_of(c: Step) -> Record
 pub fn decode_run(words: &[u64], received: &[u8], padded: &mut [u8], out: &mut [Record]) -> Decoded
     ensures { DecodesRun result padded.new out.new words.now received.now padded.old out.old }
 {
-    let mut c = lent_readings::fresh();
-    loop {
-        c = lent_readings::turn(words, received, padded, c, out.len());
-        if lent_readings::stores(c) {
-            let k = lent_readings::place_of(c);
-            out[k] = record_of(c);
-        } else {
-            if lent_readings::is_over(c) {
-                return lent_readings::decoded_of(c);
-            } else {}
-        }
-    }
+    lent_readings::decode_as(words, received, padded, out)
 }
