@@ -64,14 +64,8 @@ pub(crate) fn spaces_of(call: Call) -> usize
     ensures { result ≡ spaces_of_lem call }
 {
     match call {
-        Call::Write(_) => 4,
-        Call::WriteSlice => 4,
-        Call::Read(_) => 3,
-        Call::Advance => 3,
-        Call::ReadSlice => 3,
-        Call::WriteAdvance => 3,
-        Call::Remaining => 3,
-        Call::Unknown => 3,
+        Call::Write(_) | Call::WriteSlice => 4,
+        _ => 3,
     }
 }
 
@@ -80,14 +74,8 @@ pub(crate) fn count_max(call: Call) -> usize
     ensures { result ≡ count_max_lem call }
 {
     match call {
-        Call::ReadSlice => 0xffff_ffff_ffff_ffff,
-        Call::WriteSlice => 0xffff_ffff_ffff_ffff,
-        Call::Remaining => 0xffff_ffff_ffff_ffff,
-        Call::Read(_) => 0xffff_ffff,
-        Call::Advance => 0xffff_ffff,
-        Call::Write(_) => 0xffff_ffff,
-        Call::WriteAdvance => 0xffff_ffff,
-        Call::Unknown => 0xffff_ffff,
+        Call::ReadSlice | Call::WriteSlice | Call::Remaining => usize::MAX,
+        _ => 0xffff_ffff,
     }
 }
 

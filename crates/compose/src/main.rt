@@ -51,7 +51,7 @@ mod orders;
 use crate::orders::Orders;
 use lines::Lines;
 use std::io::{Read, Write};
-use textio::Streams;
+use textio::Failure;
 
 const NAME: [u8; 7] = *b"compose";
 
@@ -59,22 +59,24 @@ const NAME: [u8; 7] = *b"compose";
 const LINE: usize = 8192;
 
 fn main(rt: HostRuntime) {
-    let mut streams = Streams::new(rt.stdin(), rt.stdout(), rt.stderr());
-    run(
-        &mut streams,
+    let ended = run(
+        &mut rt.stdin(),
+        &mut rt.stdout(),
         &mut [0u8; textio::BUFFER],
         &mut [0u8; textio::BUFFER],
     );
+    textio::tell(&NAME, &mut rt.stderr(), ended);
 }
 
-fn run<R: Read, W: Write, E: Write>(
-    streams: &mut Streams<R, W, E>,
+fn run<R: Read, W: Write>(
+    reader: &mut R,
+    writer: &mut W,
     input: &mut [u8],
     page: &mut [u8],
-)
-    ensures { IfSome (R.remaining streams.old.input) (λ bytes. Prints streams.new.failed
-        (W.contents streams.old.output) (W.contents streams.new.output) (printed bytes)) }
+) -> Result<(), Failure>
+    ensures { IfSome (R.remaining reader.old) (λ bytes. Prints result
+        (W.contents writer.old) (W.contents writer.new) (printed bytes)) }
 {
     let mut program: Lines<Orders, LINE> = Lines::new(Orders::new());
-    textio::run(&NAME, &mut program, streams, input, page);
+    textio::run(&mut program, reader, writer, input, page)
 }

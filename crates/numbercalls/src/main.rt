@@ -32,7 +32,7 @@ mod replies;
 use crate::replies::Calls;
 use lines::Lines;
 use std::io::{Read, Write};
-use textio::Streams;
+use textio::Failure;
 
 const NAME: [u8; 11] = *b"numbercalls";
 
@@ -40,22 +40,24 @@ const NAME: [u8; 11] = *b"numbercalls";
 const LINE: usize = 1024;
 
 fn main(rt: HostRuntime) {
-    let mut streams = Streams::new(rt.stdin(), rt.stdout(), rt.stderr());
-    run(
-        &mut streams,
+    let ended = run(
+        &mut rt.stdin(),
+        &mut rt.stdout(),
         &mut [0u8; textio::BUFFER],
         &mut [0u8; textio::BUFFER],
     );
+    textio::tell(&NAME, &mut rt.stderr(), ended);
 }
 
-fn run<R: Read, W: Write, E: Write>(
-    streams: &mut Streams<R, W, E>,
+fn run<R: Read, W: Write>(
+    reader: &mut R,
+    writer: &mut W,
     input: &mut [u8],
     page: &mut [u8],
-)
-    ensures { IfSome (R.remaining streams.old.input) (λ bytes. Prints streams.new.failed
-        (W.contents streams.old.output) (W.contents streams.new.output) (printed bytes)) }
+) -> Result<(), Failure>
+    ensures { IfSome (R.remaining reader.old) (λ bytes. Prints result
+        (W.contents writer.old) (W.contents writer.new) (printed bytes)) }
 {
     let mut program: Lines<Calls, LINE> = Lines::new(Calls);
-    textio::run(&NAME, &mut program, streams, input, page);
+    textio::run(&mut program, reader, writer, input, page)
 }

@@ -25,28 +25,30 @@ ghost use Rattle.textio.specs.Run.{Prints};
 use printing::Printing;
 use std::io::{Read, Write};
 use tables::PAYLOAD_MAX;
-use textio::Streams;
+use textio::Failure;
 
 const NAME: [u8; 8] = *b"samopute";
 
 fn main(rt: HostRuntime) {
-    let mut streams = Streams::new(rt.stdin(), rt.stdout(), rt.stderr());
-    run(
-        &mut streams,
+    let ended = run(
+        &mut rt.stdin(),
+        &mut rt.stdout(),
         &mut [0u8; textio::BUFFER],
         &mut [0u8; printing::PAGE],
     );
+    textio::tell(&NAME, &mut rt.stderr(), ended);
 }
 
-fn run<R: Read, W: Write, E: Write>(
-    streams: &mut Streams<R, W, E>,
+fn run<R: Read, W: Write>(
+    reader: &mut R,
+    writer: &mut W,
     input: &mut [u8],
     page: &mut [u8],
-)
-    ensures { IfSome (R.remaining streams.old.input) (λ bytes. length (closed bytes) < 2 ^ 64 →
-        Prints streams.new.failed (W.contents streams.old.output)
-        (W.contents streams.new.output) (printed bytes)) }
+) -> Result<(), Failure>
+    ensures { IfSome (R.remaining reader.old) (λ bytes. length (closed bytes) < 2 ^ 64 →
+        Prints result
+        (W.contents writer.old) (W.contents writer.new) (printed bytes)) }
 {
     let mut program: Printing<PAYLOAD_MAX> = Printing::new();
-    textio::run(&NAME, &mut program, streams, input, page);
+    textio::run(&mut program, reader, writer, input, page)
 }

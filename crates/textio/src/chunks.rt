@@ -1,10 +1,10 @@
-// Reads and writes. `name` is the program's, for what is said on standard error.
-ghost use Rattle.std.specs.Prelude.{◌≤◌, ◌<◌, ◌≡◌, ◌+◌, true, false, length, take, OnOk};
+// Reads and writes.
+ghost use Rattle.std.specs.Prelude.{◌≤◌, ◌≡◌, ◌+◌, ◌⊎◌, true, false, Ok, Some, None, length, take, IfOk, IfSome, OnOk};
 ghost use Rattle.std.specs.Io.KnownBytes.{Appends, Consumes, IsAtEnd};
-ghost use Rattle.textio.specs.Io.{start_io, closed_io, due_in, moved_to, fetched, chunk_of, IsOver, Begins, Reads, Fetches, Stores};
+ghost use Rattle.textio.specs.Io.{start_io, due_in, moved_to, fetched, chunk_of, IsLast, IsOver, Begins, Reads, Fetches};
 
-use crate::{Io, Streams};
-use std::io::{Cursor, Error, ErrorKind, Read, Write};
+use crate::{Failure, Io};
+use std::io::{Error, ErrorKind, Read, Write};
 
 pub fn start() -> Io
     ensures { result ≡ start_io }
@@ -15,21 +15,6 @@ pub fn start() -> Io
         waits: false,
         inside: false,
         ended: false,
-        more: true,
-    }
-}
-
-fn closed(at: Io) -> Io
-    ensures value { result ≡ closed_io at }
-    ensures from_bound { (result.from ≤ 0) × (result.to ≤ 0) }
-{
-    Io {
-        from: 0,
-        to: 0,
-        waits: at.waits,
-        inside: at.inside,
-        ended: true,
-        more: false,
     }
 }
 
@@ -40,162 +25,96 @@ fn is_due(at: Io, size: usize) -> bool
     (at.waits | (at.from < at.to)) & ((at.from <= at.to) & (at.to <= size))
 }
 
-// What is left of the chunk, or the next one: it stands in `input` between `from` and `to`.
-pub fn fetch<R: Read, W: Write, E: Write>(
-    name: &[u8],
-    streams: &mut Streams<R, W, E>,
-    input: &mut [u8],
-    at: Io,
-) -> Io
+// What is left of the chunk, or the next one: it stands in `input` between `from` and `to`. There is none
+// once the input has ended, and its last line has its newline.
+pub fn fetch<R: Read>(reader: &mut R, input: &mut [u8], at: Io) -> Result<Option<Io>, Failure>
     ensures fetches { Fetches result input.new at input.old }
-    ensures from_le_to { (result.from ≤ result.to) × (result.to ≤ length input.old) }
-    ensures taken { Consumes (R.remaining streams.old.input) (R.remaining streams.new.input)
+    ensures from_le_to { IfOk result (λ some. IfSome some (λ r. (r.from ≤ r.to) × (r.to ≤ length input.old))) }
+    ensures taken { Consumes (R.remaining reader.old) (R.remaining reader.new)
         (fetched (due_in at (length input.old)) result input.new) }
-    ensures at_end { due_in at (length input.old) ≡ false → result.more ≡ true →
-        result.ended ≡ true → IsAtEnd (R.remaining streams.new.input) }
-    ensures over { at.more ≡ true → result.more ≡ false → streams.new.failed ≡ false →
-        IsOver at (R.remaining streams.new.input) }
-    ensures failed { streams.new.failed ≡ false → streams.old.failed ≡ false }
-    ensures output { W.contents streams.new.output ≡ W.contents streams.old.output }
+    ensures at_end { due_in at (length input.old) ≡ false → IsLast result (R.remaining reader.new) }
+    ensures over { result ≡ Ok None → IsOver at (R.remaining reader.new) }
 {
     if is_due(at, input.len()) {
-        return at;
+        return Ok(Some(at));
     }
     if at.ended {
-        return closed(at);
+        return Ok(None);
     }
-    read(name, streams, input, at)
+    read(reader, input, at)
 }
 
 // The next chunk, from the start of the buffer.
-fn read<R: Read, W: Write, E: Write>(
-    name: &[u8],
-    streams: &mut Streams<R, W, E>,
-    input: &mut [u8],
-    at: Io,
-) -> Io
+fn read<R: Read>(reader: &mut R, input: &mut [u8], at: Io) -> Result<Option<Io>, Failure>
     ensures reads { Reads result input.new at }
-    ensures from_bound { (result.from ≤ 0) × (result.to ≤ length input.old) }
-    ensures taken { Consumes (R.remaining streams.old.input) (R.remaining streams.new.input)
-        (chunk_of result input.new) }
-    ensures at_end { result.more ≡ true → result.ended ≡ true →
-        IsAtEnd (R.remaining streams.new.input) }
-    ensures over { result.more ≡ false → streams.new.failed ≡ false →
-        (at.inside ≡ false) × IsAtEnd (R.remaining streams.new.input) }
-    ensures failed { streams.new.failed ≡ false → streams.old.failed ≡ false }
-    ensures output { W.contents streams.new.output ≡ W.contents streams.old.output }
+    ensures from_bound { IfOk result (λ some. IfSome some (λ r. (r.from ≤ 0) × (r.to ≤ length input.old))) }
+    ensures taken { Consumes (R.remaining reader.old) (R.remaining reader.new) (chunk_of result input.new) }
+    ensures at_end { IsLast result (R.remaining reader.new) }
+    ensures over { result ≡ Ok None → (at.inside ≡ false) × IsAtEnd (R.remaining reader.new) }
 {
-    if input.len() == 0 {
-        streams.failed = true;
-        return closed(at);
+    if input.is_empty() {
+        return Err(Failure::Unfit);
     }
-    let n = match streams.input.read(input) {
-        Ok(n) => n,
-        Err(error) => {
-            tell(&mut streams.errors, name, b": standard input: ", &error);
-            streams.failed = true;
-            return closed(at);
-        }
-    };
+    let n = reader.read(input).map_err(Failure::Input)?;
     if n == 0 {
-        return last(input, at);
+        return Ok(last(input, at));
     }
-    Io {
+    Ok(Some(Io {
         from: 0,
         to: n,
-        waits: at.waits,
         inside: input[n - 1] != b'\n',
         ended: false,
-        more: true,
-    }
+        ..at
+    }))
 }
 
 // The input has ended: a line with no newline gets one.
-fn last(input: &mut [u8], at: Io) -> Io
-    ensures reads { Reads result input.new at }
-    ensures over { 0 < length input.old → result.more ≡ false → at.inside ≡ false }
-    ensures ended { result.ended ≡ true }
-    ensures from_bound { (result.from ≤ 0) × (result.to ≤ length input.old) }
+fn last(input: &mut [u8], at: Io) -> Option<Io>
+    ensures reads { Reads {E = Unit {0}} (Ok result) input.new at }
+    ensures over { result ≡ None → (length input.old ≡ 0) ⊎ (at.inside ≡ false) }
+    ensures ended { IfSome result (λ r. r.ended ≡ true) }
+    ensures from_bound { IfSome result (λ r. (r.from ≤ 0) × (r.to ≤ length input.old)) }
 {
-    if !at.inside {
-        return closed(at);
-    }
-    if input.len() < 1 {
-        return closed(at);
+    if !at.inside || input.is_empty() {
+        return None;
     }
     input[0] = b'\n';
-    Io {
+    Some(Io {
         from: 0,
         to: 1,
-        waits: at.waits,
         inside: false,
         ended: true,
-        more: true,
-    }
-}
-
-// The same chunk, of which all before `from` is taken.
-fn moved(at: Io, from: usize, waits: bool) -> Io
-    ensures { result ≡ moved_to at from waits }
-{
-    Io {
-        from,
-        to: at.to,
-        waits,
-        inside: at.inside,
-        ended: at.ended,
-        more: at.more,
-    }
+        ..at
+    })
 }
 
 // Writes the first n bytes of a page, the text of a call that took so many bytes of the chunk and left
 // a line that waits, or none. Where that fails nothing follows, as it would stand after a gap. A call
 // that has moved nothing has found no room on an empty page, and would find none again.
-pub fn store<R: Read, W: Write, E: Write>(
-    name: &[u8],
-    streams: &mut Streams<R, W, E>,
+pub fn store<W: Write>(
+    writer: &mut W,
     page: &[u8],
     n: usize,
     taken: usize,
     waits: bool,
     at: Io,
-) -> Io
-    ensures stores { Stores result at taken waits }
-    ensures written { result.more ≡ true →
-        Appends (W.contents streams.old.output) (W.contents streams.new.output) (take n page.now) }
-    ensures begun { Begins (W.contents streams.old.output) (W.contents streams.new.output)
-        (take n page.now) }
-    ensures whole { streams.new.failed ≡ false → (result ≡ moved_to at (at.from + taken) waits)
-        × Appends (W.contents streams.old.output) (W.contents streams.new.output) (take n page.now) }
-    ensures failed { streams.new.failed ≡ false → streams.old.failed ≡ false }
-    ensures input { R.remaining streams.new.input ≡ R.remaining streams.old.input }
+) -> Result<Io, Failure>
+    ensures stores { IfOk result (λ r. r ≡ moved_to at (at.from + taken) waits) }
+    ensures written { OnOk result (Appends (W.contents writer.old) (W.contents writer.new) (take n page.now)) }
+    ensures begun { Begins (W.contents writer.old) (W.contents writer.new) (take n page.now) }
 {
-    let from = at.from;
-    let to = at.to;
-    if page.len() < n || to < from {
-        streams.failed = true;
-        return closed(at);
+    if page.len() < n || at.to < at.from || at.to - at.from < taken {
+        return Err(Failure::Unfit);
     }
-    if to - from < taken {
-        streams.failed = true;
-        return closed(at);
+    if n == 0 && taken == 0 && (waits || at.from < at.to) {
+        return Err(Failure::NoRoom);
     }
-    if n == 0 && taken == 0 && (waits || from < to) {
-        say(&mut streams.errors, name);
-        say(&mut streams.errors, b": an answer has no room\n");
-        streams.failed = true;
-        return closed(at);
-    }
-    match put(&mut streams.output, &page[0..n]) {
-        Ok(()) => {
-            return moved(at, from + taken, waits);
-        }
-        Err(error) => {
-            tell(&mut streams.errors, name, b": standard output: ", &error);
-        }
-    }
-    streams.failed = true;
-    closed(at)
+    put(writer, &page[..n]).map_err(Failure::Output)?;
+    Ok(Io {
+        from: at.from + taken,
+        waits,
+        ..at
+    })
 }
 
 // Writes all of a text, or stops at the first write that takes nothing or fails, when some of it may have
@@ -213,32 +132,4 @@ fn put<W: Write>(output: &mut W, text: &[u8]) -> Result<(), Error>
         done += n;
     }
     Ok(())
-}
-
-// A line on standard error: what failed, and why.
-fn tell<E: Write>(errors: &mut E, name: &[u8], what: &[u8], error: &Error) {
-    let mut text = Cursor::new([0u8; 256]);
-    let _ = write!(text, "{error}");
-    let text = text.into_inner();
-    say(errors, name);
-    say(errors, what);
-    say(errors, &text[..reason(&text)]);
-    say(errors, b"\n");
-}
-
-// Standard error is the last place to say something: where it fails there is no other.
-fn say<E: Write>(errors: &mut E, text: &[u8]) {
-    let _ = errors.write_all(text);
-}
-
-// How many bytes of an error's text, which 0s follow, say the reason: the error's number stands behind it.
-fn reason(text: &[u8]) -> usize
-    ensures { result ≤ length text.now }
-{
-    for i in 0..text.len() {
-        if text[i] == 0 || text[i..].starts_with(b" (os error ") {
-            return i;
-        }
-    }
-    text.len()
 }

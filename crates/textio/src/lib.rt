@@ -11,43 +11,20 @@
 // the kit's.
 #![tactic(auto)]
 
-ghost use Rattle.std.specs.Prelude.{◌≡◌, false};
-
 mod chunks;
+mod failures;
 mod runs;
 
 pub use crate::chunks::{fetch, start, store};
+pub use crate::failures::{Failure, tell};
 pub use crate::runs::run;
-
-// What a program reads from, writes to and says on standard error what fails; and whether anything has.
-#[derive(Drop)]
-pub struct Streams<R, W, E> {
-    pub input: R,
-    pub output: W,
-    pub errors: E,
-    pub failed: bool,
-}
-
-impl<R, W, E> Streams<R, W, E> {
-    // Before anything has failed.
-    pub fn new(input: R, output: W, errors: E) -> Streams<R, W, E>
-        ensures { (result.input ≡ input) × ((result.output ≡ output) × ((result.errors ≡ errors) × (result.failed ≡ false))) }
-    {
-        Streams {
-            input,
-            output,
-            errors,
-            failed: false,
-        }
-    }
-}
 
 // The bytes of a chunk of the input, at the most, and of most programs' pages.
 pub const BUFFER: usize = 65536;
 
 // Where a program stands with its input and output: which part of the chunk is not taken yet; whether a
 // line waits, whose answer has found no room; whether the input so far ends within a line; whether it has
-// ended; `more` is false once there is no more to do, or something has failed.
+// ended.
 #[derive(Clone, Copy)]
 pub struct Io {
     pub from: usize,
@@ -55,5 +32,4 @@ pub struct Io {
     pub waits: bool,
     pub inside: bool,
     pub ended: bool,
-    pub more: bool,
 }

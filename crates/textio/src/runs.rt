@@ -3,33 +3,29 @@ ghost use Rattle.std.specs.Prelude.{IfSome};
 ghost use Rattle.lines.specs.Machine.{closed, text_from};
 ghost use Rattle.textio.specs.Run.{Prints};
 
-use crate::{Streams, fetch, start, store};
+use crate::{Failure, fetch, start, store};
 use lines::{Program, pass};
 use std::io::{Read, Write};
 
 // A proved loop has to end, and nothing says that the input does. So the loop has as many turns as no
 // run uses up; one that did would count as one that failed.
-pub fn run<P: Program, R: Read, W: Write, E: Write>(
-    name: &[u8],
+pub fn run<P: Program, R: Read, W: Write>(
     program: &mut P,
-    streams: &mut Streams<R, W, E>,
+    reader: &mut R,
+    writer: &mut W,
     input: &mut [u8],
     page: &mut [u8],
-)
-    ensures { IfSome (R.remaining streams.old.input) (λ bytes. Prints streams.new.failed
-        (W.contents streams.old.output) (W.contents streams.new.output)
-        (text_from P.machine (P.kept program.old) (closed bytes))) }
+) -> Result<(), Failure>
+    ensures { IfSome (R.remaining reader.old) (λ bytes. Prints result (W.contents writer.old)
+        (W.contents writer.new) (text_from P.machine (P.kept program.old) (closed bytes))) }
 {
     let mut at = start();
     for _ in 0..u64::MAX {
-        at = fetch(name, streams, input, at);
-        let from = at.from;
-        let to = at.to;
-        let p = pass(program, at.waits, &input[from..to], page, 0);
-        at = store(name, streams, page, p.to, p.taken, p.waits, at);
-        if !at.more {
-            return;
-        }
+        let Some(chunk) = fetch(reader, input, at)? else {
+            return Ok(());
+        };
+        let p = pass(program, chunk.waits, &input[chunk.from..chunk.to], page, 0);
+        at = store(writer, page, p.to, p.taken, p.waits, chunk)?;
     }
-    streams.failed = true;
+    Err(Failure::Unfit)
 }

@@ -12,7 +12,7 @@ use Rattle.samopute.proofs.run.Goals as goal
 pub returns : goal.returns
 returns g c =
     let Q : List ℕ → Type 0 =
-    λ bytes. length (closed bytes) < 2 ^ 64 → Prints c.run.new.streams.failed (g.W.Write.contents c.args.streams.now.output) (g.W.Write.contents c.run.new.streams.output) (printed bytes) in
+    λ bytes. length (closed bytes) < 2 ^ 64 → Prints c.run.result (g.W.Write.contents c.args.writer.now) (g.W.Write.contents c.run.new.writer) (printed bytes) in
     let buffer = c.new-program.result.buffer in
     known_of _ _ Q
     (λ bytes p small. subst (Prints _ _ _) (ap (λ (l : Line). text_from samopute (kept l buffer) (closed bytes)) c.new-program.ensures ∙ exact buffer (closed bytes) (search rules) small) p)

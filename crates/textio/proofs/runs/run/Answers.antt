@@ -1,39 +1,43 @@
--- A turn goes on the way, by `handed` and `stored`, until it has come to its end.
-use Rattle.std.proofs.Common.{refl, ap, sym, ◌∙◌, rules, true, false}
-use Rattle.textio.proofs.Turns.{handed, stored, finished, begins, if_known, never}
+-- A turn goes on the way, by `handed` and `stored`, until there is no more to do, or something fails.
+use Rattle.std.proofs.Common.{refl, sym, ap, ◌∙◌, rules, subst, Ok, Err, Some, None}
+use Rattle.textio.specs.Run.{Prints}
+use Rattle.textio.proofs.Turns.{handed, stored, broken, finished, begins, begun, if_known, failed, ended}
 use Rattle.textio.proofs.runs.run.Goals as goal
 
 pub loop-init : goal.loop-init
-loop-init g c =
-    let k = g.P.Program.kept c.args.program.now in
-    (refl, (refl, (ap (λ at. at.more) c.start-at.ensures, λ bytes e. begins g.P.Program.machine k k _ _ bytes _ _ _ refl c.start-at.ensures e)))
+loop-init g c = (refl, (refl, λ bytes e. begins g.P.Program.machine (g.P.Program.kept c.args.program.now) _ _ bytes _ _ c.start-at.ensures e))
+
+pub returns-in_err-chunk : goal.returns-in_err-chunk
+returns-in_err-chunk g c = if_known _ _ (λ bytes e. failed _ _ _ c.from_residual.ensures.0 (begun g.P.Program.machine _ _ (c.loop.invariant.1.1 bytes e)))
+
+pub returns-in_default : goal.returns-in_default
+returns-in_default g c =
+    let f = c.fetch.ensures in
+    let r = c.in_ok-chunk.was ∙ ap Ok c.in_default.is in
+    if_known _ _ (λ bytes e. ended _ _ _ (finished g.P.Program.machine _ _ _ _ _ _ _ (c.loop.invariant.1.1 bytes e) _ _ _ f.fetches f.taken r (f.over r)))
+
+pub returns-in_err-at : goal.returns-in_err-at
+returns-in_err-at g c =
+    let m = g.P.Program.machine in
+    let f = c.fetch.ensures in
+    let r = c.in_ok-chunk.was ∙ ap Ok c.in-Some.is in
+    if_known _ _ (λ bytes e.
+    let h = handed m _ _ _ _ _ _ _ (c.loop.invariant.1.1 bytes e) _ _ _ f.fetches f.taken _ r (search rules) (search rules) f.at_end in
+    failed _ _ _ c.from_residual-in_err-at.ensures.0 (broken m _ _ _ _ _ _ _ h _ (search rules) _ _ _ _ _ c.pass-p.ensures _ c.store.ensures.begun))
 
 pub loop-preserved : goal.loop-preserved
 loop-preserved g c =
     let m = g.P.Program.machine in
-    let f = c.fetch-at.ensures in
-    let s = c.store-at.ensures in (
+    let f = c.fetch.ensures in
+    let r = c.in_ok-chunk.was ∙ ap Ok c.in-Some.is in (
       search rules,
       (
         search rules,
-        (
-          search rules,
-          λ bytes e.
-              let h = handed m _ _ _ _ _ _ _ _ (c.loop.invariant.1.1.1 bytes e) c.loop.invariant.1.1.0 _ _ _ _ _ f.fetches f.from_le_to (search rules) f.taken f.at_end f.over f.output in
-              stored m _ _ _ _ _ _ _ _ h.0 h.1 _ (search rules) _ _ _ _ _ c.pass-p.ensures _ _ _ _ s.stores s.written s.begun s.whole s.failed s.input,
-        ),
+        λ bytes e.
+            let h = handed m _ _ _ _ _ _ _ (c.loop.invariant.1.1 bytes e) _ _ _ f.fetches f.taken _ r (search rules) (search rules) f.at_end in
+            stored m _ _ _ _ _ _ _ h _ (search rules) _ _ _ _ _ c.pass-p.ensures _ _ (search rules) (search rules),
       ),
     )
 
-pub returns-then-not-at : goal.returns-then-not-at
-returns-then-not-at g c =
-    let m = g.P.Program.machine in
-    let f = c.fetch-at.ensures in
-    let s = c.store-at.ensures in
-    if_known _ _ (λ bytes e.
-    let h = handed m _ _ _ _ _ _ _ _ (c.loop.invariant.1.1.1 bytes e) c.loop.invariant.1.1.0 _ _ _ _ _ f.fetches f.from_le_to (search rules) f.taken f.at_end f.over f.output in
-    let a = stored m _ _ _ _ _ _ _ _ h.0 h.1 _ (search rules) _ _ _ _ _ c.pass-p.ensures _ _ _ _ s.stores s.written s.begun s.whole s.failed s.input in
-    finished m _ _ a (λ h. (search rules, h)))
-
 pub returns : goal.returns
-returns g c = if_known _ _ (λ bytes e. finished g.P.Program.machine _ _ (c.loop.invariant.1.1.1 bytes e) (λ h. never h))
+returns g c = if_known _ _ (λ bytes e. failed _ _ _ refl (begun g.P.Program.machine _ _ (c.loop.invariant.1.1 bytes e)))
