@@ -7,6 +7,7 @@ use native.Mathlib.Omega.{arith}
 use borrow.Author.Tests.{leb-true}
 use lib.Dec.{eqb, leb}
 use lib.ListN.{length, take, drop, length-append, length-take, length-drop}
+use Rattle.std.specs.Prelude.{is_some, unwrap_or}
 use Rattle.bits.specs.Bits.{pick}
 use Rattle.bits.specs.Refusals.{number_of, carried_of}
 use Rattle.bits.specs.Calls.{cursor_at, place, read_of, advance_of, written_of, read_slice_of, part_of, slice_room_of, write_slice_of, sliced_in, sliced_of, remaining_of}
@@ -105,10 +106,10 @@ module _ (c : Cursor) (s : List ℕ) (n : ℕ) where
 
   write-size : (w : Width) (value : List ℕ) → length (write_text w c s n value) ≤ most
   write-size w value =
-      let v = (hex_in value).value in
+      let v = unwrap_or (hex_in value) 0 in
       let new = written_of s c n (widest w) v in
       let m = advance_of (length s) c n (widest w) in
-      either ((hex_in value).good && leb v (largest w)) (written_text m new) malformed_text most (omega (arith, written-size m new, length-written_of s c n (widest w) v)) (omega arith)
+      either (is_some (hex_in value) && leb v (largest w)) (written_text m new) malformed_text most (omega (arith, written-size m new, length-written_of s c n (widest w) v)) (omega arith)
 
   write-slice-size : (value : List ℕ) → length (write_slice_text c s n value) ≤ most
   write-slice-size value =
@@ -150,11 +151,11 @@ text_max = 70 + 2 * bytes_max
 
 head-size : (cursor count buffer : List ℕ) (rest : Cursor → List ℕ → ℕ → List ℕ)
     → ((c : Cursor) (s : List ℕ) (n : ℕ) → length (rest c s n) ≤ 70 + 2 * length s) → length (head_text cursor count buffer rest) ≤ text_max
-head-size cursor count buffer rest l = go ((decimal_in cursor).good && (decimal_in count).good) (is_bytes bytes_max buffer) refl
+head-size cursor count buffer rest l = go (is_some (decimal_in cursor) && is_some (decimal_in count)) (is_bytes bytes_max buffer) refl
   where
     go : (g t : Bool) → is_bytes bytes_max buffer ≡ t
-        → length (pick (g && t) (rest (cursor_at (decimal_in cursor).value) (bytes_of buffer) (decimal_in count).value) malformed_text) ≤ text_max
-    go true true e = omega (arith, l (cursor_at (decimal_in cursor).value) (bytes_of buffer) (decimal_in count).value, few_bytes buffer e)
+        → length (pick (g && t) (rest (cursor_at (unwrap_or (decimal_in cursor) 0)) (bytes_of buffer) (unwrap_or (decimal_in count) 0)) malformed_text) ≤ text_max
+    go true true e = omega (arith, l (cursor_at (unwrap_or (decimal_in cursor) 0)) (bytes_of buffer) (unwrap_or (decimal_in count) 0), few_bytes buffer e)
     go true false e = omega arith
     go false t e = omega arith
 

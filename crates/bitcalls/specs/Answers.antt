@@ -1,5 +1,5 @@
 -- What a line is answered: src/main.rt, "CALL CURSOR COUNT BUFFER [VALUE]".
-use Rattle.std.specs.Prelude.{ℕ, List, [], ◌∷◌, ◌++◌, ◌&&◌, eqb, leb, length}
+use Rattle.std.specs.Prelude.{ℕ, List, [], ◌∷◌, ◌++◌, ◌&&◌, eqb, leb, length, is_some, unwrap_or}
 use Rattle.bits.specs.Bits.{pick}
 use Rattle.bits.specs.Calls.{cursor_at, read_of, advance_of, read_slice_of}
 use Rattle.bits.specs.declared.Cursor.{Cursor}
@@ -37,7 +37,7 @@ form_text line c s n =
 -- "CURSOR and COUNT are decimal. [..] BUFFER is capital hexadecimal"; what follows goes by them
 abbrev pub head_text : List ℕ → List ℕ → List ℕ → (Cursor → List ℕ → ℕ → List ℕ) → List ℕ
 head_text cursor count buffer rest =
-    pick ((decimal_in cursor).good && (decimal_in count).good && is_bytes bytes_max buffer) (rest (cursor_at (decimal_in cursor).value) (bytes_of buffer) (decimal_in count).value)
+    pick (is_some (decimal_in cursor) && is_some (decimal_in count) && is_bytes bytes_max buffer) (rest (cursor_at (unwrap_or (decimal_in cursor) 0)) (bytes_of buffer) (unwrap_or (decimal_in count) 0))
     malformed_text
 
 -- "CALL CURSOR COUNT BUFFER [VALUE]"

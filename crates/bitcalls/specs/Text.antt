@@ -1,5 +1,5 @@
 -- The text of a bit call's answer: src/main.rt, "'ok CURSOR' and what was read, or 'F NUMBER' and what the refusal carries".
-use Rattle.std.specs.Prelude.{ℕ, List, ◌∷◌, ◌++◌, ◌&&◌, eqb, leb, length, Result, Ok, Err}
+use Rattle.std.specs.Prelude.{ℕ, List, ◌∷◌, ◌++◌, ◌&&◌, eqb, leb, length, is_some, unwrap_or, Result, Ok, Err}
 use Rattle.bits.specs.Bits.{pick}
 use Rattle.bits.specs.Refusals.{number_of, carried_of}
 use Rattle.bits.specs.Calls.{place, advance_of, written_of, part_of, write_slice_of, sliced_of, remaining_of}
@@ -50,8 +50,8 @@ remaining_text c s n = pick (eqb n 0) (ok_text (place c) ++ spaced (remaining_of
 -- "a number", of the call's width
 abbrev pub write_text : Width → Cursor → List ℕ → ℕ → List ℕ → List ℕ
 write_text w c s n value =
-    pick ((hex_in value).good && leb (hex_in value).value (largest w))
-    (written_text (advance_of (length s) c n (widest w)) (written_of s c n (widest w) (hex_in value).value))
+    pick (is_some (hex_in value) && leb (unwrap_or (hex_in value) 0) (largest w))
+    (written_text (advance_of (length s) c n (widest w)) (written_of s c n (widest w) (unwrap_or (hex_in value) 0)))
     malformed_text
 
 -- no BUFFER and no VALUE has more bytes: "capital hexadecimal, two digits a byte, or '-' where it is empty"

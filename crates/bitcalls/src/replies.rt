@@ -1,5 +1,5 @@
 // A line's fields, and which call they go to; and a chunk of input, line by line.
-ghost use Rattle.std.specs.Prelude.{◌≤◌, ◌≡◌, ◌&&◌};
+ghost use Rattle.std.specs.Prelude.{◌≤◌, ◌≡◌};
 ghost use Rattle.bits.specs.Calls.{cursor_at};
 ghost use Rattle.text.specs.Sheet.{PutsOn};
 ghost use Rattle.columns.specs.Parts.{field};
@@ -10,7 +10,7 @@ use crate::names::{Call, call_of, count_max, spaces_of};
 use crate::reads::{put_advance, put_read, put_remaining, put_slice};
 use crate::writes::{put_write, put_write_advance, put_write_slice};
 use bits::{BitPos, Cursor};
-use columns::{Number, word};
+use columns::word;
 use lines::Answers;
 use text::Page;
 
@@ -20,14 +20,8 @@ fn place(n: u64) -> usize
     n as usize
 }
 
-fn all(a: bool, b: bool, c: bool) -> bool
-    ensures { result ≡ (a && b && c) }
-{
-    a & b & c
-}
-
 // The field at place i, in decimal.
-fn number(line: &[u8], i: usize) -> Number
+fn number(line: &[u8], i: usize) -> Option<u64>
     ensures { result ≡ decimal_in (field line.now i) }
 {
     columns::decimal(word(line, i))
@@ -82,15 +76,17 @@ fn put_reply(line: &[u8], page: &mut Page<'_>)
     ensures { PutsOn page.old (answer_text line.now) page.new }
 {
     let mut buffer = [0u8; 256];
-    let cursor = number(line, 1);
-    let count = number(line, 2);
-    let run = columns::bytes(word(line, 3), &mut buffer);
-    let n = run.len;
-    if !all(cursor.good, count.good, run.good) {
+    let Some(cursor) = number(line, 1) else {
         return page.put_malformed();
-    }
-    let c = cursor_of(cursor.value);
-    put_form(line, c, &mut buffer[0..n], place(count.value), page);
+    };
+    let Some(count) = number(line, 2) else {
+        return page.put_malformed();
+    };
+    let Some(n) = columns::bytes(word(line, 3), &mut buffer) else {
+        return page.put_malformed();
+    };
+    let c = cursor_of(cursor);
+    put_form(line, c, &mut buffer[0..n], place(count), page);
 }
 
 // What answers the lines.

@@ -45,11 +45,9 @@ fn write_width(w: Width, c: Cursor, s: &mut [u8], v: u64, n: u32) -> Result<Curs
 pub(crate) fn put_write(w: Width, c: Cursor, s: &mut [u8], n: u32, text: &[u8], page: &mut Page<'_>)
     ensures { PutsOn page.old (write_text w c s.old n text.now) page.new }
 {
-    let value = columns::hex(text);
-    let v = value.value;
-    if !value.good {
+    let Some(v) = columns::hex(text) else {
         return page.put_malformed();
-    }
+    };
     if most(w) < v {
         return page.put_malformed();
     }
@@ -75,11 +73,9 @@ pub(crate) fn put_write_slice(
     ensures { PutsOn page.old (write_slice_text c s.old count text.now) page.new }
 {
     let mut source = [0u8; 256];
-    let run = columns::bytes(text, &mut source);
-    let n = run.len;
-    if !run.good {
+    let Some(n) = columns::bytes(text, &mut source) else {
         return page.put_malformed();
-    }
+    };
     if n != count {
         return page.put_malformed();
     }

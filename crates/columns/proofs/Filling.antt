@@ -7,6 +7,7 @@ use native.Mathlib.Omega.{arith}
 use borrow.Author.Tests.{le-leb, lt-leb, eq-eqb, ne_eqb}
 use lib.Dec.{eqb}
 use lib.ListN.{length, take, drop, get_or, length-drop, length-map}
+use Rattle.std.specs.Prelude.{is_some, unwrap_or}
 use Rattle.hexadecimal.specs.Digits.{value_of, all_digits_lem, pairs_of}
 use Rattle.hexadecimal.proofs.Inverse.{heads, length_pairs}
 use Rattle.columns.specs.Parts.{part_end_lem, parts_of}
@@ -84,15 +85,15 @@ bytes-more (b ∷ c ∷ bs) old l = refl
 
 -- ## Numbers
 
-pub run-good : (t : Bool) (n : ℕ) → (run_if t n).good ≡ t
+pub run-good : (t : Bool) (n : ℕ) → is_some (run_if t n) ≡ t
 run-good true n = refl
 run-good false n = refl
 
-numbers-not : (p : List ℕ) (ps : List (List ℕ)) → (hex_in p).good ≡ false → all_numbers (p ∷ ps) ≡ false
+numbers-not : (p : List ℕ) (ps : List (List ℕ)) → is_some (hex_in p) ≡ false → all_numbers (p ∷ ps) ≡ false
 unfolding all_numbers
 numbers-not p ps e = ap (λ (t : Bool). t && all_numbers ps) e
 
-numbers_more : (p : List ℕ) (ps : List (List ℕ)) → (hex_in p).good ≡ true → all_numbers (p ∷ ps) ≡ all_numbers ps
+numbers_more : (p : List ℕ) (ps : List (List ℕ)) → is_some (hex_in p) ≡ true → all_numbers (p ∷ ps) ≡ all_numbers ps
 unfolding all_numbers
 numbers_more p ps e = ap (λ (t : Bool). t && all_numbers ps) e
 
@@ -102,16 +103,16 @@ numbers-none = refl
 
 -- from the part on that starts at `from` and ends at `end`
 module _ (mark : ℕ) (s : List ℕ) (from end : ℕ) (h : from ≤ length s) (e : end ≡ part_end_lem mark from s) where
-  pub count-other : end ≤ length s → (hex_in (take (end - from) (drop from s))).good ≡ false → all_numbers (parts_of mark (drop from s)) ≡ false
+  pub count-other : end ≤ length s → is_some (hex_in (take (end - from) (drop from s))) ≡ false → all_numbers (parts_of mark (drop from s)) ≡ false
   count-other l g = let f = part-first mark s from end h e l in ap all_numbers f.1 ∙ numbers-not (take (end - from) (drop from s)) f.0 g
 
-  pub count-last : end ≡ length s → (hex_in (take (end - from) (drop from s))).good ≡ true
+  pub count-last : end ≡ length s → is_some (hex_in (take (end - from) (drop from s))) ≡ true
       → (all_numbers (parts_of mark (drop from s)) ≡ true) × (length (parts_of mark (drop from s)) ≡ 1)
   count-last l g =
       let f = part-last mark s from end h e l in
       (ap all_numbers f ∙ numbers_more (take (end - from) (drop from s)) [] g ∙ numbers-none, ap length f)
 
-  pub count-more : end < length s → (hex_in (take (end - from) (drop from s))).good ≡ true
+  pub count-more : end < length s → is_some (hex_in (take (end - from) (drop from s))) ≡ true
       → (all_numbers (parts_of mark (drop from s)) ≡ all_numbers (parts_of mark (drop (end + 1) s)))
       × (length (parts_of mark (drop from s)) ≡ suc (length (parts_of mark (drop (end + 1) s))))
   count-more l g =
@@ -132,4 +133,4 @@ module _ (mark : ℕ) (s old : List ℕ) where
   unfolding words_in
   words-good e l =
       simp (e, le-leb (length (parts_of mark s)) (length old) l)
-      (ap (λ (n : ℕ). filled (run n) (over (values_of (parts_of mark s)) old)) (length-map (parts_of mark s) (λ (p : List ℕ). (hex_in p).value)))
+      (ap (λ (n : ℕ). filled (run n) (over (values_of (parts_of mark s)) old)) (length-map (parts_of mark s) (λ (p : List ℕ). unwrap_or (hex_in p) 0)))

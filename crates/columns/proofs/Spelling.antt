@@ -8,6 +8,7 @@ use native.Mathlib.Nat.{mul_assoc, mul-le-mul_left, mul-le-mul_right, pow-zero, 
 use borrow.Author.Tests.{lt-ltb, le-ltb, le-leb, lt-leb, ltb-true}
 use lib.Dec.{leb, ltb}
 use lib.ListN.{length, drop, get_or, drop_of_length-le}
+use Rattle.std.specs.Prelude.{unwrap_or}
 use Rattle.hexadecimal.specs.Digits.{value_of}
 use Rattle.hexadecimal.proofs.Inverse.{both}
 use Rattle.columns.specs.Numbers.{number, no_number_lem, number_if, all_below, spelled_in, number_in}
@@ -67,11 +68,11 @@ spelled-below base v (b ∷ bs) e =
     omega (arith, rest, all, power)
 
 -- a text that is no number counts as 0
-pub number-below : (base most : ℕ) (s : List ℕ) → 0 < base → (number_in base most s).value < base ^ length s
+pub number-below : (base most : ℕ) (s : List ℕ) → 0 < base → unwrap_or (number_in base most s) 0 < base ^ length s
 unfolding number_in
 number-below base most s h = by (ltb 0 (length s) && leb (length s) most) (all_below base s) (ltb (spelled_in base 0 s) (2 ^ 64)) refl
   where
-    by : (x y z : Bool) → all_below base s ≡ y → (number_if (x && y && z) (spelled_in base 0 s)).value < base ^ length s
+    by : (x y z : Bool) → all_below base s ≡ y → unwrap_or (number_if (x && y && z) (spelled_in base 0 s)) 0 < base ^ length s
     by true true true e = omega (arith, spelled-below base 0 s e)
     by true true false e = one-le-pow (length s) base h
     by true false z e = one-le-pow (length s) base h

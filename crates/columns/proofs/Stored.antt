@@ -1,46 +1,55 @@
 -- What a call leaves in a buffer that it was lent: the values that a text has, or nothing. Assumes nothing.
 use mathlib.Core.Path.{◌≡◌, refl, ap, ◌∙◌}
 use mathlib.Core.Bool.{Bool, true, false}
-use mathlib.Core.List.{List, [], ◌∷◌}
+use mathlib.Core.List.{List, [], ◌∷◌, ◌++◌}
 use Prim.Native.Nat.{ℕ, ◌-◌, ◌≤◌}
 use native.Mathlib.Omega.{arith}
 use lib.ListN.{length, take, drop, length-append}
 use lib.Seq.{take_at}
+use Rattle.std.specs.Prelude.{Option, Some, None, is_some}
 use Rattle.columns.specs.Parts.{parts_of}
 use Rattle.columns.specs.Runs.{Filled, filled, filled_if, pairs_in, bytes_in_lem, is_bytes, bytes_of, values_of, words_in, is_words}
-use Rattle.columns.specs.declared.Run.{Run}
 
-abbrev pub run_in : Filled → Run
+abbrev pub run_in : Filled → Option ℕ
 run_in (filled r buffer) = r
 
 abbrev pub buffer_in : Filled → List ℕ
 buffer_in (filled r buffer) = buffer
 
 -- what was stored, or that nothing was
-pub record Stored (t : Bool) (xs : List ℕ) (r : Run) (buffer : List ℕ) : Type 0 where
-  pub good : r.good ≡ t
-  pub within : t ≡ true → r.len ≤ length buffer
-  pub count : t ≡ true → r.len ≡ length xs
-  pub first : t ≡ true → take (r.len - 0) buffer ≡ xs
+pub record Stored (t : Bool) (xs : List ℕ) (r : Option ℕ) (buffer : List ℕ) : Type 0 where
+  pub good : is_some r ≡ t
+  pub none : r ≡ None → t ≡ false
+  pub some : {n : ℕ} → r ≡ Some n → t ≡ true
+  pub within : {n : ℕ} → r ≡ Some n → n ≤ length buffer
+  pub count : {n : ℕ} → r ≡ Some n → n ≡ length xs
+  pub first : {n : ℕ} → r ≡ Some n → take (n - 0) buffer ≡ xs
 
-stored : (t : Bool) (r : Run) (xs old new : List ℕ) → filled r new ≡ filled_if t xs old → Stored t xs r new
+-- .. so many values
+several : (n m : ℕ) (r : Option ℕ) → r ≡ Some m → r ≡ Some n → n ≡ m
+several n m r e f = cc
+
+stored : (t : Bool) (r : Option ℕ) (xs old new : List ℕ) → filled r new ≡ filled_if t xs old → Stored t xs r new
 stored true r xs old new e =
-    let is = ap run_in e in
-    let has = ap buffer_in e in
-    let all : length xs - 0 ≡ length xs = omega arith in
+    let is : r ≡ Some (length xs) = ap run_in e in
+    let has : new ≡ xs ++ drop (length xs) old = ap buffer_in e in
     record {
       good = rw is;
-      within = λ g. rw (is, has) (omega (arith, length-append xs (drop (length xs) old)));
-      count = λ g. rw is;
-      first = λ g. rw (is, has, all) (take_at xs (drop (length xs) old) (length xs) refl);
+      none = λ f. cc;
+      some = λ f. refl;
+      within = λ f. rw has (omega (arith, several _ _ r is f, length-append xs (drop (length xs) old)));
+      count = λ f. several _ _ r is f;
+      first = λ f. rw has (take_at xs (drop (length xs) old) _ (omega (arith, several _ _ r is f)));
     }
 stored false r xs old new e =
-    let is = ap run_in e in
+    let is : r ≡ None = ap run_in e in
     record {
       good = rw is;
-      within = λ g. absurd (let z : ◌≡◌ {A = ℕ} 0 1 = cc in omega arith);
-      count = λ g. absurd (let z : ◌≡◌ {A = ℕ} 0 1 = cc in omega arith);
-      first = λ g. absurd (let z : ◌≡◌ {A = ℕ} 0 1 = cc in omega arith);
+      none = λ f. refl;
+      some = λ f. cc;
+      within = λ f. cc;
+      count = λ f. cc;
+      first = λ f. cc;
     }
 
 -- in a buffer with room for so many; of a field, by another name too
@@ -55,7 +64,7 @@ module _ (old : List ℕ) (most : ℕ) (size : length old ≡ most) where
   unfolding words_in
   words-is mark s = rw size
 
-  module _ {field field' : List ℕ} (named : field ≡ field') {r : Run} {new : List ℕ} where
+  module _ {field field' : List ℕ} (named : field ≡ field') {r : Option ℕ} {new : List ℕ} where
     pub stored_bytes : filled r new ≡ bytes_in_lem field old → Stored (is_bytes most field') (bytes_of field') r new
     stored_bytes e = stored (is_bytes most field') r (bytes_of field') old new (e ∙ ap (λ (x : List ℕ). bytes_in_lem x old) named ∙ bytes-is field')
 

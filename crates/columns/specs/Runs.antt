@@ -1,26 +1,25 @@
 -- Numbers and bytes that a text has, at the start of a lent buffer: all of them, or the buffer as it was.
-use Rattle.std.specs.Prelude.{ℕ, ◌/◌, ◌%◌, List, [], ◌∷◌, ◌++◌, map, Bool, true, false, ◌&&◌, leb, eqb, length, drop}
+use Rattle.std.specs.Prelude.{ℕ, ◌/◌, ◌%◌, List, [], ◌∷◌, ◌++◌, map, Bool, true, false, ◌&&◌, leb, eqb, length, drop, Option, Some, None, is_some, unwrap_or}
 use Rattle.hexadecimal.specs.Digits.{all_digits_lem, pairs_of}
-use Rattle.columns.specs.declared.Run.{Run}
 use Rattle.columns.specs.Parts.{parts_of}
 use Rattle.columns.specs.Numbers.{hex_in}
 
 -- how many values were stored
-abbrev pub run : ℕ → Run
-run n = record { good = true; len = n }
+abbrev pub run : ℕ → Option ℕ
+run n = Some n
 
 -- .. and where none was
-abbrev pub no_run : Run
-no_run = record { good = false; len = 0 }
+abbrev pub no_run : Option ℕ
+no_run = None
 
 -- a count, if the test holds
-abbrev pub run_if : Bool → ℕ → Run
+abbrev pub run_if : Bool → ℕ → Option ℕ
 run_if true n = run n
 run_if false n = no_run
 
 -- what a call answers, and what the buffer then holds
 pub data Filled : Type 0 where
-  filled : Run → List ℕ → Filled
+  filled : Option ℕ → List ℕ → Filled
 
 -- values in place of the first ones of a buffer
 abbrev pub over : List ℕ → List ℕ → List ℕ
@@ -60,11 +59,11 @@ bytes_of (b ∷ c ∷ bs) = pairs_of (b ∷ c ∷ bs)
 -- each part is a number, in hexadecimal
 unfoldable pub all_numbers : List (List ℕ) → Bool
 all_numbers [] = true
-all_numbers (p ∷ ps) = (hex_in p).good && all_numbers ps
+all_numbers (p ∷ ps) = is_some (hex_in p) && all_numbers ps
 
 -- .. and these are the numbers
 abbrev pub values_of : List (List ℕ) → List ℕ
-values_of ps = map (λ (p : List ℕ). (hex_in p).value) ps
+values_of ps = map (λ (p : List ℕ). unwrap_or (hex_in p) 0) ps
 
 -- numbers in hexadecimal, which a mark sets apart, where there is room for them
 unfoldable pub words_in : ℕ → List ℕ → List ℕ → Filled

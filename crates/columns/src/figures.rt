@@ -1,9 +1,8 @@
 // Numbers in digits.
 ghost use Rattle.std.specs.Prelude.{◌<◌, ◌≡◌};
 ghost use Rattle.hexadecimal.specs.Digits.{value_of};
-ghost use Rattle.columns.specs.Numbers.{no_number_lem, number_in, decimal_in, hex_in};
+ghost use Rattle.columns.specs.Numbers.{number_in, decimal_in, hex_in};
 
-use crate::Number;
 use hexadecimal::value_of;
 
 // No number of 64 bits has more digits, in decimal and in hexadecimal.
@@ -21,55 +20,43 @@ fn digit(b: u8) -> u64
     value_of(b) as u64
 }
 
-fn no_number() -> Number
-    ensures { result ≡ no_number_lem }
-{
-    Number {
-        good: false,
-        value: 0,
-    }
-}
-
 // A number in a base, of 1 to `most` digits.
-fn number_in(s: &[u8], base: u64, most: usize) -> Number
+fn number_in(s: &[u8], base: u64, most: usize) -> Option<u64>
     requires { 0 < base }
     ensures { result ≡ number_in base most s.now }
 {
     if s.len() == 0 {
-        return no_number();
+        return None;
     }
     if most < s.len() {
-        return no_number();
+        return None;
     }
     let mut v: u64 = 0;
     let mut i = 0;
     while i < s.len() {
         let d = digit(s[i]);
         if base <= d {
-            return no_number();
+            return None;
         }
         // One digit more would be past 64 bits.
         if (LARGEST - d) / base < v {
-            return no_number();
+            return None;
         }
         v = v * base + d;
         i += 1;
     }
-    Number {
-        good: true,
-        value: v,
-    }
+    Some(v)
 }
 
 // A number of 1 to 20 digits that fits 64 bits.
-pub fn decimal(s: &[u8]) -> Number
+pub fn decimal(s: &[u8]) -> Option<u64>
     ensures { result ≡ decimal_in s.now }
 {
     number_in(s, 10, DECIMAL_DIGITS)
 }
 
 // A number of 1 to 16 digits.
-pub fn hex(s: &[u8]) -> Number
+pub fn hex(s: &[u8]) -> Option<u64>
     ensures { result ≡ hex_in s.now }
 {
     number_in(s, 16, HEX_DIGITS)

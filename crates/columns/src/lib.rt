@@ -2,7 +2,7 @@
 // hexadecimal, as the crate `text` prints them.
 //
 // Promise: every call takes any bytes and any numbers, and answers as specs/ says. What is not of its
-// form is not good, and then a lent buffer stays as it was. What is printed is read back:
+// form is None, and then a lent buffer stays as it was. What is printed is read back:
 // proofs/Back.antt. No call has a `requires`, and nothing is assumed. Limit: numbers have 64 bits.
 #![tactic(auto)]
 
@@ -15,17 +15,3 @@ pub use crate::figures::{decimal, hex};
 pub use crate::names::{place_in, same};
 pub use crate::parts::{field_end, marks, part, part_end, word};
 pub use crate::runs::{bytes, pairs, words};
-
-// A number that was read; 0 where it is not good.
-#[derive(Clone, Copy)]
-pub struct Number {
-    pub good: bool,
-    pub value: u64,
-}
-
-// How many values stand at the start of a buffer; 0 where they are not good.
-#[derive(Clone, Copy)]
-pub struct Run {
-    pub good: bool,
-    pub len: usize,
-}

@@ -3,37 +3,24 @@
 ghost use Rattle.std.specs.Prelude.{◌+◌, ◌*◌, ◌≤◌, ◌≡◌, true, length};
 ghost use Rattle.hexadecimal.specs.Digits.{all_digits_lem, pairs_of};
 ghost use Rattle.columns.specs.Parts.{parts_of};
-ghost use Rattle.columns.specs.Runs.{no_run, run_if, filled, over, all_numbers, values_of, pairs_in, bytes_in_lem, words_in};
+ghost use Rattle.columns.specs.Runs.{run_if, filled, over, all_numbers, values_of, pairs_in, bytes_in_lem, words_in};
 
-use crate::Run;
 use crate::figures::hex;
 use crate::parts::{part, part_end};
 use hexadecimal::value_of;
 
-fn no_run() -> Run
-    ensures { result ≡ no_run }
-{
-    Run {
-        good: false,
-        len: 0,
-    }
-}
-
 // How many parts there are, if each is a number.
-fn count_numbers(s: &[u8], mark: u8) -> Run
+fn count_numbers(s: &[u8], mark: u8) -> Option<usize>
     ensures { result ≡ run_if (all_numbers (parts_of mark s.now)) (length (parts_of mark s.now)) }
 {
     let mut n: usize = 0;
     let mut from: usize = 0;
     loop {
         let end = part_end(s, from, mark);
-        let word = hex(part(s, from, end));
-        if !word.good {
-            return no_run();
-        }
+        hex(part(s, from, end))?;
         n += 1;
         if end == s.len() {
-            return Run { good: true, len: n };
+            return Some(n);
         }
         from = end + 1;
     }
@@ -48,8 +35,7 @@ fn store_numbers(s: &[u8], mark: u8, words: &mut [u64])
     let mut from: usize = 0;
     loop {
         let end = part_end(s, from, mark);
-        let word = hex(part(s, from, end));
-        words[n] = word.value;
+        words[n] = hex(part(s, from, end)).unwrap_or(0);
         n += 1;
         if end == s.len() {
             return;
@@ -59,18 +45,15 @@ fn store_numbers(s: &[u8], mark: u8, words: &mut [u64])
 }
 
 // Numbers as `hex` has them, set apart by a mark.
-pub fn words(s: &[u8], mark: u8, words: &mut [u64]) -> Run
+pub fn words(s: &[u8], mark: u8, words: &mut [u64]) -> Option<usize>
     ensures { filled result «words».new ≡ words_in mark s.now «words».old }
 {
-    let count = count_numbers(s, mark);
-    if !count.good {
-        return no_run();
-    }
-    if words.len() < count.len {
-        return no_run();
+    let count = count_numbers(s, mark)?;
+    if words.len() < count {
+        return None;
     }
     store_numbers(s, mark, words);
-    count
+    Some(count)
 }
 
 fn all_digits(s: &[u8]) -> bool
@@ -101,35 +84,31 @@ fn store_pairs(s: &[u8], buffer: &mut [u8])
 }
 
 // Bytes of two digits each.
-pub fn pairs(s: &[u8], buffer: &mut [u8]) -> Run
+pub fn pairs(s: &[u8], buffer: &mut [u8]) -> Option<usize>
     ensures { filled result buffer.new ≡ pairs_in s.now buffer.old }
 {
     if s.len() % 2 != 0 {
-        return no_run();
+        return None;
     }
     let n = s.len() / 2;
     if buffer.len() < n {
-        return no_run();
+        return None;
     }
     if !all_digits(s) {
-        return no_run();
+        return None;
     }
     store_pairs(s, buffer);
-    Run { good: true, len: n }
+    Some(n)
 }
 
 // The same of at least one byte, or '-' for none.
-pub fn bytes(s: &[u8], buffer: &mut [u8]) -> Run
+pub fn bytes(s: &[u8], buffer: &mut [u8]) -> Option<usize>
     ensures { filled result buffer.new ≡ bytes_in_lem s.now buffer.old }
 {
-    if s.len() == 0 {
-        return no_run();
+    match s {
+        [] => None,
+        [b'-'] => Some(0),
+        [_] => None,
+        _ => pairs(s, buffer),
     }
-    if s.len() == 1 {
-        return Run {
-            good: s[0] == b'-',
-            len: 0,
-        };
-    }
-    pairs(s, buffer)
 }

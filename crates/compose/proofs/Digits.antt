@@ -1,21 +1,19 @@
 -- Numbers with a sign, and decimal numbers. Assumes nothing.
-use mathlib.Core.Path.{◌≡◌, refl, ap, ◌∙◌}
-use mathlib.Core.Bool.{Bool, true, false, not, ◌&&◌, ◌||◌}
+use mathlib.Core.Path.{◌≡◌, refl, ap}
+use mathlib.Core.Bool.{Bool, true, false, ◌&&◌}
 use mathlib.Core.List.{List}
 use Prim.Native.Nat.{ℕ, suc, ◌+◌, ◌-◌, ◌*◌, ◌^◌, ◌≤◌, ◌<◌}
 use native.Mathlib.Nat.{mul-le-mul_right, pow-le-pow_right, mod-eq_of_lt}
 use native.Mathlib.Omega.{arith}
-use borrow.Author.Tests.{ltb-true, ltb-false, leb-true}
-use lib.Dec.{leb, ltb}
-use lib.IntN.{pos}
-use lib.Ieee.{Float, binary64, div, of_int}
+use borrow.Author.Tests.{ltb-true, ltb-false}
+use lib.Dec.{ltb}
 use lib.ListN.{length}
 use lib.Pow.{pow-add}
+use Rattle.std.specs.Prelude.{Option, Some, unwrap_or}
 use Rattle.hexadecimal.proofs.Inverse.{both}
-use Rattle.columns.specs.Numbers.{number, no_number_lem, decimal_digits, decimal_in}
-use Rattle.columns.specs.declared.Number.{Number}
+use Rattle.columns.specs.Numbers.{decimal_digits, decimal_in}
 use Rattle.columns.proofs.Spelling.{number-below}
-use Rattle.compose.specs.Decimals.{point, head_of, tail_of, is_signed, complement, with_sign, digits_max, pattern_of, double_of}
+use Rattle.compose.specs.Decimals.{complement}
 
 -- ## A sign
 
@@ -34,13 +32,6 @@ pub complement-none : (negative : Bool) (n : ℕ) → negative && ltb 0 n ≡ fa
 complement-none false n e = refl
 complement-none true n e = let none : n ≡ 0 = omega (arith, ltb-false 0 n e) in rw none
 
-module _ (negative : Bool) (n : Number) {t : Bool} (e : t ≡ is_signed negative n.value) where
-  pub signed : n.good && t ≡ true → number (complement negative n.value) ≡ with_sign negative n
-  signed g = rw (← e, g)
-
-  pub unsigned : n.good && t ≡ false → no_number_lem ≡ with_sign negative n
-  unsigned g = rw (← e, g)
-
 -- ## A point
 
 -- a number below a power of ten, then so many digits more
@@ -50,26 +41,9 @@ joined a b m k l h f =
     let most : 10 ^ (m + k) ≤ 10 ^ 15 = pow-le-pow_right (omega arith) f in
     omega (arith, pow-add 10 m k, all, most)
 
--- a text by what stands before its point and after it, as they were read
-module _ (s : List ℕ) {whole rest : List ℕ} {a b : Number} (h : whole ≡ head_of point s) (t : rest ≡ tail_of point s) (e : a ≡ decimal_in whole) (f : b ≡ decimal_in rest) where
-  abbrev good : Bool
-  good = a.good && (b.good || not (ltb (length whole) (length s))) && leb (length whole + length rest) digits_max
-
-  pub few : good ≡ true → length whole + length rest ≤ 15
-  few g = leb-true (length whole + length rest) digits_max (both (a.good && (b.good || not (ltb (length whole) (length s)))) (leb (length whole + length rest) digits_max) g).1
-
-  pub fits : good ≡ true → {power : ℕ} → power ≡ 10 ^ length rest → a.value * power + b.value < 2 ^ 64
-  fits g q =
-      rw q
-      (joined a.value b.value (length whole) (length rest)
-      (rw e (number-below 10 decimal_digits whole (omega arith))) (rw f (number-below 10 decimal_digits rest (omega arith))) (few g))
-
-  pub decimal : (negative : Bool) → good ≡ true → {power r : ℕ} {x : Float} → power ≡ 10 ^ length rest
-      → x ≡ div binary64 (of_int binary64 (pos (a.value * power + b.value))) (of_int binary64 (pos power)) → r ≡ pattern_of negative x → number r ≡ double_of negative s
-  decimal negative g q d p =
-      rw (← h, ← t, ← e, ← f, g)
-      (ap number
-      (p ∙ ap (pattern_of negative) (d ∙ ap (λ (n : ℕ). div binary64 (of_int binary64 (pos (a.value * n + b.value))) (of_int binary64 (pos n))) q)))
-
-  pub no-decimal : (negative : Bool) → good ≡ false → no_number_lem ≡ double_of negative s
-  no-decimal negative g = rw (← h, ← t, ← e, ← f, g)
+-- the digits before a point and those after it, as they were read, over a power of ten
+pub fits : (whole rest : List ℕ) {a b power : ℕ} → decimal_in whole ≡ Some a → b ≡ unwrap_or (decimal_in rest) 0 → length whole + length rest ≤ 15 → power ≡ 10 ^ length rest → a * power + b < 2 ^ 64
+fits whole rest {a} {b} e f few q =
+    let first : a < 10 ^ length whole = omega (arith, number-below 10 decimal_digits whole (omega arith), ap (λ (n : Option ℕ). unwrap_or n 0) e) in
+    let last : b < 10 ^ length rest = rw f (number-below 10 decimal_digits rest (omega arith)) in
+    rw q (joined a b (length whole) (length rest) first last few)

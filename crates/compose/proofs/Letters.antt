@@ -4,38 +4,22 @@ use mathlib.Core.Bool.{Bool, true, false, ◌&&◌}
 use mathlib.Core.List.{List, [], ◌∷◌, ◌++◌, append-nil}
 use Prim.Native.Nat.{ℕ, ◌+◌, ◌-◌, ◌/◌, ◌%◌, ◌^◌, ◌≤◌, ◌<◌}
 use native.Mathlib.Omega.{arith}
-use borrow.Author.Tests.{le-leb, lt-leb, leb-true, leb-false, eqb-true, ne_eqb}
-use lib.Dec.{eqb, leb, ltb}
+use borrow.Author.Tests.{le-leb, lt-leb, leb-true, leb-false, ne_eqb}
+use lib.Dec.{eqb, leb}
 use lib.ListN.{length, take, drop, get_or, length-drop, drop_of_length-le, take-append-drop}
 use lib.Seq.{take_all}
+use Rattle.std.specs.Prelude.{Option, Some, None, is_some, unwrap_or}
 use Rattle.bits.specs.Bits.{pick}
 use Rattle.hexadecimal.specs.Digits.{all_digits_lem, pairs_of}
-use Rattle.hexadecimal.proofs.Inverse.{both, length_pairs}
+use Rattle.hexadecimal.proofs.Inverse.{length_pairs}
 use Rattle.columns.specs.Numbers.{hex_digits, decimal_in, hex_in}
-use Rattle.columns.specs.declared.Number.{Number}
-use Rattle.columns.specs.declared.Run.{Run}
 use Rattle.columns.specs.Runs.{filled, filled_if, pairs_in}
 use Rattle.columns.proofs.Spelling.{number-below}
 use Rattle.columns.proofs.Stored.{run_in, buffer_in}
 use Rattle.compose.specs.declared.entries.Entry.{Entry}
 use Rattle.compose.specs.Decimals.{head_of, tail_of}
-use Rattle.compose.specs.Values.{Value, number, text, none, numbered, text_value, colon, encoding_head, encoded_value, kind_max, coded_value, by_letter, value_of}
+use Rattle.compose.specs.Values.{Value, number, text, none, text_value, colon, kind_max, coded_value, by_letter, value_of}
 use Rattle.compose.specs.Clauses.{entry, entry_of, told, told_by}
-
--- ## Numbers
-
-pub of-kind : (kind : ℕ) (n : Number) → n.good ≡ true → entry true kind n.value 0 ≡ entry_of 0 (numbered kind n)
-of-kind kind n g = rw g
-
-pub not-of-kind : (kind : ℕ) (n : Number) → n.good ≡ false → entry_of 0 none ≡ entry_of 0 (numbered kind n)
-not-of-kind kind n g = rw g
-
-module _ (s : List ℕ) {kind word : Number} (e : kind ≡ decimal_in (head_of colon s)) (f : word ≡ hex_in (tail_of colon s)) where
-  pub coded : kind.good && leb kind.value kind_max && word.good ≡ true → entry true kind.value word.value 0 ≡ entry_of 0 (coded_value s)
-  coded g = rw (← e, ← f, g)
-
-  pub not-coded : kind.good && leb kind.value kind_max && word.good ≡ false → entry_of 0 none ≡ entry_of 0 (coded_value s)
-  not-coded g = rw (← e, ← f, g)
 
 -- a value without a text
 abbrev pub NoText : Value → Type 0
@@ -51,24 +35,25 @@ number-plain false kind word = tt
 
 module _ (used : ℕ) (old : List ℕ) (h : used ≤ length old) where
   untold : (v : Value) → NoText v → told (entry_of 0 v) old ≡ told_by used old v
-  untold (number kind word) n = rw (le-leb (used + 0) (length old) (omega arith)) (ap (told (entry true kind word 0)) (sym (take-append-drop used old)))
+  untold (number kind word) n = rw (le-leb (used + 0) (length old) (omega arith)) (ap (told (Some (entry kind word 0))) (sym (take-append-drop used old)))
   untold (text head bytes) n = absurd n
-  untold none n = rw (le-leb (used + 0) (length old) (omega arith)) (ap (told (entry_of 0 none)) (sym (take-append-drop used old)))
+  untold none n = rw (le-leb (used + 0) (length old) (omega arith)) (ap (told None) (sym (take-append-drop used old)))
 
   -- it leaves the lent text as it was
-  pub plain : (v : Value) → NoText v → {w : Value} {e : Entry} → e ≡ entry_of 0 v → v ≡ w → told e old ≡ told_by used old w
-  plain v n e f = ap (λ (x : Entry). told x old) e ∙ untold v n ∙ ap (told_by used old) f
+  pub plain : (v : Value) → NoText v → {w : Value} {e : Option Entry} → e ≡ entry_of 0 v → v ≡ w → told e old ≡ told_by used old w
+  plain v n e f = ap (λ (x : Option Entry). told x old) e ∙ untold v n ∙ ap (told_by used old) f
 
-  pub coded-told : (s : List ℕ) {w : Value} {e : Entry} → e ≡ entry_of 0 (coded_value s) → coded_value s ≡ w → told e old ≡ told_by used old w
+  pub coded-told : (s : List ℕ) {w : Value} {e : Option Entry} → e ≡ entry_of 0 (coded_value s) → coded_value s ≡ w → told e old ≡ told_by used old w
   coded-told s e f =
       plain (coded_value s)
-      (number-plain ((decimal_in (head_of colon s)).good && leb (decimal_in (head_of colon s)).value kind_max && (hex_in (tail_of colon s)).good) (decimal_in (head_of colon s)).value (hex_in (tail_of colon s)).value) e f
+      (number-plain (is_some (decimal_in (head_of colon s)) && leb (unwrap_or (decimal_in (head_of colon s)) 0) kind_max && is_some (hex_in (tail_of colon s))) (unwrap_or (decimal_in (head_of colon s)) 0) (unwrap_or (hex_in (tail_of colon s)) 0)) e f
 
   -- what is known of a text, by the bytes that were stored
-  abbrev entry_by : ℕ → Run → Entry
-  entry_by head r = pick r.good (entry true head used r.len) (entry_of 0 none)
+  abbrev entry_by : ℕ → Option ℕ → Option Entry
+  entry_by head None = None
+  entry_by head (Some n) = Some (entry head used n)
 
-  module _ (head : ℕ) (s : List ℕ) {r : Run} {new : List ℕ} where
+  module _ (head : ℕ) (s : List ℕ) {r : Option ℕ} {new : List ℕ} where
     text-by : (a b d : Bool) → leb (length s / 2) (length (drop used old)) ≡ b → filled r new ≡ filled_if (a && b && d) (pairs_of s) (drop used old)
         → told (entry_by head r) (take used old ++ new) ≡ told_by used old (pick (a && d) (text head (pairs_of s)) none)
     text-by true true true f e =
@@ -78,7 +63,7 @@ module _ (used : ℕ) (old : List ℕ) (h : used ≤ length old) where
     text-by true false true f e =
         let full : leb (used + length (pairs_of s)) (length old) ≡ false =
         lt-leb (used + length (pairs_of s)) (length old) (omega (arith, length_pairs s, leb-false (length s / 2) (length (drop used old)) f, length-drop used old)) in
-        rw (ap run_in e, ap buffer_in e, full) (ap (told (entry_of 0 none)) (take-append-drop used old))
+        rw (ap run_in e, ap buffer_in e, full) (ap (told None) (take-append-drop used old))
     text-by true true false f e = rw (ap run_in e, ap buffer_in e, le-leb (used + 0) (length old) (omega arith))
     text-by true false false f e = rw (ap run_in e, ap buffer_in e, le-leb (used + 0) (length old) (omega arith))
     text-by false b d f e = rw (ap run_in e, ap buffer_in e, le-leb (used + 0) (length old) (omega arith))
@@ -102,26 +87,15 @@ module _ (used : ℕ) (old : List ℕ) (h : used ≤ length old) where
           ap (told (entry_by head r)) after_is
           ∙ text-by (eqb (length s % 2) 0) (leb (length s / 2) (length (drop used old))) (all_digits_lem s) refl (e ∙ ap (pairs_in s) all)
 
-      pub text-good : r.good ≡ true → told (entry true head used r.len) after ≡ told_by used old (text_value head s)
+      pub text-good : {n : ℕ} → r ≡ Some n → told (Some (entry head used n)) after ≡ told_by used old (text_value head s)
       text-good g = rw g at is
 
-      pub text-bad : r.good ≡ false → {v : Entry} → v ≡ entry_of 0 none → told v after ≡ told_by used old (text_value head s)
-      text-bad g f = ap (λ (x : Entry). told x after) f ∙ rw g at is
+      pub text-bad : r ≡ None → {v : Option Entry} → v ≡ None → told v after ≡ told_by used old (text_value head s)
+      text-bad g f = ap (λ (x : Option Entry). told x after) f ∙ rw g at is
 
-  module _ (s : List ℕ) {x : List ℕ} {e : Number} (k : x ≡ head_of colon s) (f : e ≡ hex_in x) where
-    abbrev good : Bool
-    good = ltb (length x) (length s) && eqb (length x) 2 && e.good
-
-    pub byte : good ≡ true → e.value < 256
-    byte g =
-        let two = eqb-true (length x) 2 (both (ltb (length x) (length s)) (eqb (length x) 2) (both (ltb (length x) (length s) && eqb (length x) 2) e.good g).0).1 in
-        omega (arith, number-below 16 hex_digits x (omega arith), ap (λ (n : ℕ). 16 ^ n) two, ap (λ (n : Number). n.value) f)
-
-    pub encoded : good ≡ true → {rest : List ℕ} → rest ≡ tail_of colon s → told_by used old (text_value (encoding_head e.value) rest) ≡ told_by used old (encoded_value s)
-    encoded g t = rw (← k, ← f, g, t)
-
-    pub not-encoded : good ≡ false → {v : Entry} → v ≡ entry_of 0 none → told v old ≡ told_by used old (encoded_value s)
-    not-encoded g w = rw (← k, ← f, g) (plain none tt w refl)
+-- two digits are a byte
+pub byte : (x : List ℕ) {e : ℕ} → hex_in x ≡ Some e → length x ≡ 2 → e < 256
+byte x f two = omega (arith, number-below 16 hex_digits x (omega arith), ap (λ (n : ℕ). 16 ^ n) two, ap (λ (n : Option ℕ). unwrap_or n 0) f)
 
 -- ## By the letter
 

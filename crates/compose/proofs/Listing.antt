@@ -11,6 +11,7 @@ use lib.ListN.{length, take, drop, length-append}
 use lib.Seq.{take_at, length-take-le, take-append-add}
 use Rattle.bits.specs.Bits.{pick}
 use Rattle.bits.proofs.Written.{below}
+use Rattle.std.specs.Prelude.{Option, Some, None}
 use Rattle.text.specs.Sheet.{lost, Puts}
 use Rattle.text.proofs.Sheets.{stands}
 use Rattle.columns.specs.Runs.{over}
@@ -18,7 +19,7 @@ use Rattle.compose.specs.declared.entries.Entry.{Entry}
 use Rattle.compose.specs.declared.entries.Listed.{Listed}
 use Rattle.compose.specs.Values.{Value, number, text, none, value_of}
 use Rattle.compose.specs.Records.{low_bytes, record_by, record_of_lem, text_of, is_value, Lists, lists, unlisted, more, lists_from}
-use Rattle.compose.specs.Clauses.{entry_of, Told, told, told_by, no_listed, taken}
+use Rattle.compose.specs.Clauses.{entry_of, Told, told, told_by, taken}
 
 -- ## A record has 24 bytes
 
@@ -34,59 +35,57 @@ record-size head word len =
 
 -- ## What is known of a value
 
-entry-good : (used : ℕ) (v : Value) → (entry_of used v).good ≡ is_value v
-entry-good used (number kind word) = refl
-entry-good used (text head bytes) = refl
-entry-good used none = refl
+no_entry : (used : ℕ) (v : Value) → None ≡ entry_of used v → is_value v ≡ false
+no_entry used (number kind word) e = cc
+no_entry used (text head bytes) e = cc
+no_entry used none e = refl
 
-entry-len : (used : ℕ) (v : Value) → (entry_of used v).len ≡ length (text_of v)
-entry-len used (number kind word) = refl
-entry-len used (text head bytes) = refl
-entry-len used none = refl
+-- an entry is that of a value, and as long as its text
+record Entered (used : ℕ) (v : Value) (e : Entry) : Type 0 where
+  pub value : is_value v ≡ true
+  pub len : e.len ≡ length (text_of v)
+  pub is : record_by e.head e.word e.len ≡ record_of_lem used v
 
-entry-record : (used : ℕ) (v : Value) → record_by (entry_of used v).head (entry_of used v).word (entry_of used v).len ≡ record_of_lem used v
-entry-record used (number kind word) = refl
-entry-record used (text head bytes) = refl
-entry-record used none = refl
+some : {e f : Entry} → Some e ≡ Some f → e ≡ f
+some h = cc
 
-abbrev entry_in : Told → Entry
+entered : (used : ℕ) (v : Value) {e : Entry} → Some e ≡ entry_of used v → Entered used v e
+entered used (number kind word) h = let k = some h in record { value = refl; len = rw k; is = rw k }
+entered used (text head bytes) h = let k = some h in record { value = refl; len = rw k; is = rw k }
+entered used none h = cc
+
+abbrev entry_in : Told → Option Entry
 entry_in (told e new) = e
 
 abbrev lent_in : Told → List ℕ
 lent_in (told e new) = new
 
-no : {A : Type 0} → true ≡ false → A
-no e = let z : ◌≡◌ {A = ℕ} 0 1 = cc in absurd (omega arith)
-
 -- a value and its text had room: what is known of it, and the lent text after it
 record Found (used : ℕ) (old : List ℕ) (v : Value) (e : Entry) (new : List ℕ) : Type 0 where
   pub fits : used + length (text_of v) ≤ length old
-  pub is : e ≡ entry_of used v
+  pub is : Some e ≡ entry_of used v
   pub after : new ≡ take used old ++ over (text_of v) (drop used old)
 
-module _ (used : ℕ) (old : List ℕ) (v : Value) {e : Entry} {new : List ℕ} where
-  found-by : (t : Bool) → leb (used + length (text_of v)) (length old) ≡ t
-      → told e new ≡ pick t (told (entry_of used v) (take used old ++ over (text_of v) (drop used old))) (told (entry_of used none) old) → e.good ≡ true → Found used old v e new
-  found-by true f h g = record { fits = leb-true (used + length (text_of v)) (length old) f; is = ap entry_in h; after = ap lent_in h }
-  found-by false f h g = no (sym g ∙ ap (λ (x : Told). (entry_in x).good) h)
+module _ (used : ℕ) (old : List ℕ) (v : Value) {new : List ℕ} where
+  found-by : {e : Entry} (t : Bool) → leb (used + length (text_of v)) (length old) ≡ t
+      → told (Some e) new ≡ pick t (told (entry_of used v) (take used old ++ over (text_of v) (drop used old))) (told (entry_of used none) old) → Found used old v e new
+  found-by true f h = record { fits = leb-true (used + length (text_of v)) (length old) f; is = ap entry_in h; after = ap lent_in h }
+  found-by {e} false f h = let k : Some e ≡ None = ap entry_in h in cc
 
-  found : told e new ≡ told_by used old v → e.good ≡ true → Found used old v e new
-  found h g = found-by (leb (used + length (text_of v)) (length old)) refl h g
+  found : {e : Entry} → told (Some e) new ≡ told_by used old v → Found used old v e new
+  found h = found-by (leb (used + length (text_of v)) (length old)) refl h
 
-  missed_by : (t : Bool) → told e new ≡ pick t (told (entry_of used v) (take used old ++ over (text_of v) (drop used old))) (told (entry_of used none) old) → e.good ≡ false
+  missed_by : (t : Bool) → told None new ≡ pick t (told (entry_of used v) (take used old ++ over (text_of v) (drop used old))) (told (entry_of used none) old)
       → (x : Bool) → is_value v && x && t ≡ false
-  missed_by true h g x = rw (sym (entry-good used v) ∙ sym (ap (λ (y : Told). (entry_in y).good) h) ∙ g)
-  missed_by false h g x = and-false (is_value v && x)
+  missed_by true h x = rw (no_entry used v (ap entry_in h))
+  missed_by false h x = and-false (is_value v && x)
 
-  missed : told e new ≡ told_by used old v → e.good ≡ false → (x : Bool) → is_value v && x && leb (used + length (text_of v)) (length old) ≡ false
-  missed h g x = missed_by (leb (used + length (text_of v)) (length old)) h g x
+  missed : told None new ≡ told_by used old v → (x : Bool) → is_value v && x && leb (used + length (text_of v)) (length old) ≡ false
+  missed h x = missed_by (leb (used + length (text_of v)) (length old)) h x
 
 -- ## One value more
 
-pub off : {r : Listed} (values old values₀ old₀ : List ℕ) {x : Lists} → r ≡ no_listed → unlisted ≡ x → (taken r values old ≡ x) × ((r.bytes ≤ length values₀) × (r.text ≤ length old₀))
-off values old values₀ old₀ e f = rw e (f, (omega arith, omega arith))
-
-module _ (listed : Listed) (values old : List ℕ) (v : Value) (on : listed.good ≡ true) (l : listed.bytes ≤ length values) (h : listed.text ≤ length old) where
+module _ (listed : Listed) (values old : List ℕ) (v : Value) (l : listed.bytes ≤ length values) (h : listed.text ≤ length old) where
   abbrev test : Bool
   test = is_value v && leb (listed.bytes + 24) (length values) && leb (listed.text + length (text_of v)) (length old)
 
@@ -94,31 +93,26 @@ module _ (listed : Listed) (values old : List ℕ) (v : Value) (on : listed.good
   longer = lists (take listed.bytes values ++ record_of_lem listed.text v) (take listed.text old ++ text_of v)
 
   -- what is listed has as many bytes as are counted
-  more-is : more (length values) (length old) (taken listed values old) v ≡ pick test longer unlisted
-  more-is = rw (on, length-take-le listed.bytes values l, length-take-le listed.text old h)
+  more-is : more (length values) (length old) (taken (Some listed) values old) v ≡ pick test longer unlisted
+  more-is = rw (length-take-le listed.bytes values l, length-take-le listed.text old h)
 
-  module _ {e : Entry} {new : List ℕ} (t : told e new ≡ told_by listed.text old v) where
-    pub none_more : e.good ≡ false → unlisted ≡ more (length values) (length old) (taken listed values old) v
-    none_more g = sym (more-is ∙ ap (λ (b : Bool). pick b longer unlisted) (missed listed.text old v t g (leb (listed.bytes + 24) (length values))))
+  module _ {r : Option Entry} {new : List ℕ} (t : told r new ≡ told_by listed.text old v) where
+    pub none_more : r ≡ None → unlisted ≡ more (length values) (length old) (taken (Some listed) values old) v
+    none_more g =
+        sym (more-is ∙ ap (λ (b : Bool). pick b longer unlisted) (missed listed.text old v (ap (λ (x : Option Entry). told x new) (sym g) ∙ t) (leb (listed.bytes + 24) (length values))))
 
-    module _ (g : e.good ≡ true) {values' : List ℕ} {to : ℕ} (small : length values < lost) (p : Puts values listed.bytes (record_by e.head e.word e.len) values' to) where
+    module _ {e : Entry} (g : r ≡ Some e) {values' : List ℕ} {to : ℕ} (small : length values < lost) (p : Puts values listed.bytes (record_by e.head e.word e.len) values' to) where
       f : Found listed.text old v e new
-      f = found listed.text old v t g
+      f = found listed.text old v (ap (λ (x : Option Entry). told x new) (sym g) ∙ t)
+
+      entry : Entered listed.text v e
+      entry = entered listed.text v f.is
 
       size : length (record_by e.head e.word e.len) ≡ 24
       size = record-size e.head e.word e.len
 
-      value : is_value v ≡ true
-      value = sym (entry-good listed.text v) ∙ ap (λ (x : Entry). x.good) (sym f.is) ∙ g
-
-      record_is : record_by e.head e.word e.len ≡ record_of_lem listed.text v
-      record_is = ap (λ (x : Entry). record_by x.head x.word x.len) f.is ∙ entry-record listed.text v
-
-      len_is : e.len ≡ length (text_of v)
-      len_is = ap (λ (x : Entry). x.len) f.is ∙ entry-len listed.text v
-
       pub text-within : listed.text + e.len ≤ length old
-      text-within = omega (arith, f.fits, len_is)
+      text-within = omega (arith, f.fits, entry.len)
 
       -- the page keeps its length
       same_size : length values' ≡ length values
@@ -127,29 +121,25 @@ module _ (listed : Listed) (values old : List ℕ) (v : Value) (on : listed.good
       bytes-within : to ≤ length values' → to ≤ length values
       bytes-within k = omega (arith, same_size)
 
-      pub full : length values' < to → unlisted ≡ more (length values) (length old) (taken listed values old) v
+      pub full : length values' < to → unlisted ≡ more (length values) (length old) (taken (Some listed) values old) v
       full k =
           let room = (stands small p).room in
           let past : length values < listed.bytes + 24 =
           ⊎_elim (λ (x : length values < listed.bytes + 24). x) (λ (x : listed.bytes + 24 ≤ length values). absurd (omega (arith, room (omega (arith, size)), size, same_size))) (below (length values) (listed.bytes + 24)) in
           let off : leb (listed.bytes + 24) (length values) ≡ false = lt-leb (listed.bytes + 24) (length values) past in
-          sym (more-is ∙ rw (off, value))
+          sym (more-is ∙ rw (off, entry.value))
 
-      one_more : to ≤ length values' → lists (take to values') (take (listed.text + e.len) new) ≡ more (length values) (length old) (taken listed values old) v
+      pub one_more : to ≤ length values' → lists (take to values') (take (listed.text + e.len) new) ≡ more (length values) (length old) (taken (Some listed) values old) v
       one_more k =
           let w = (stands small p).whole (bytes-within k) in
           let fit : leb (listed.bytes + 24) (length values) ≡ true = le-leb (listed.bytes + 24) (length values) (omega (arith, w.0, size, bytes-within k)) in
           let room : leb (listed.text + length (text_of v)) (length old) ≡ true = le-leb (listed.text + length (text_of v)) (length old) f.fits in
           let before = length-take-le listed.text old h in
           let texts : take (listed.text + e.len) new ≡ take listed.text old ++ text_of v =
-          ap₂ (λ (n : ℕ) (x : List ℕ). take n x) (ap₂ ◌+◌ (sym before) len_is) f.after
+          ap₂ (λ (n : ℕ) (x : List ℕ). take n x) (ap₂ ◌+◌ (sym before) entry.len) f.after
           ∙ take-append-add (take listed.text old) (over (text_of v) (drop listed.text old)) (length (text_of v))
           ∙ ap (λ (x : List ℕ). take listed.text old ++ x) (take_at (text_of v) (drop (length (text_of v)) (drop listed.text old)) (length (text_of v)) refl) in
-          ap₂ lists (w.1 ∙ ap (λ (x : List ℕ). take listed.bytes values ++ x) record_is) texts ∙ sym (more-is ∙ rw (fit, room, value))
-
-      pub added : to ≤ length values'
-          → (lists (take to values') (take (listed.text + e.len) new) ≡ more (length values) (length old) (taken listed values old) v) × ((to ≤ length values) × (listed.text + e.len ≤ length old))
-      added k = (one_more k, (bytes-within k, text-within))
+          ap₂ lists (w.1 ∙ ap (λ (x : List ℕ). take listed.bytes values ++ x) entry.is) texts ∙ sym (more-is ∙ rw (fit, room, entry.value))
 
 -- ## All of them
 
@@ -180,7 +170,5 @@ module _ (room space : ℕ) where
   finished {l} e w = sym (ap (lists_from room space l) e ∙ all_listed l) ∙ w
 
   -- one field was no value
-  pub gone : (r : Listed) (values old : List ℕ) → r.good ≡ false → (fields : List (List ℕ)) {x : Lists} → lists_from room space (taken r values old) fields ≡ x → taken r values old ≡ x
-  gone r values old g fields w =
-      let is : taken r values old ≡ unlisted = rw g in
-      is ∙ sym (ap (λ (l : Lists). lists_from room space l fields) is ∙ stays-off fields) ∙ w
+  pub gone : (fields : List (List ℕ)) {x : Lists} → lists_from room space unlisted fields ≡ x → unlisted ≡ x
+  gone fields w = sym (stays-off fields) ∙ w

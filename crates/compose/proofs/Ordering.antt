@@ -1,23 +1,19 @@
 -- An encode by a message's table or by any table, and the orders of a line. Assumes nothing.
-use Rattle.std.specs.Prelude.{Result, Ok, Err}
+use Rattle.std.specs.Prelude.{Result, Ok, Err, Option, Some, None, unwrap_or}
 use mathlib.Core.Path.{◌≡◌, refl, sym, ap, ap₂, ◌∙◌}
-use mathlib.Core.Bool.{Bool, true, false, ◌&&◌}
+use mathlib.Core.Bool.{Bool, true, false, and-false}
 use mathlib.Core.List.{List, [], ◌∷◌, ◌++◌}
 use Prim.Native.Nat.{ℕ, zero, suc, ◌-◌, ◌^◌, ◌≤◌, ◌<◌}
 use native.Mathlib.Omega.{arith}
-use borrow.Author.Tests.{leb-true, eqb-true}
-use lib.Dec.{eqb, leb}
+use borrow.Author.Tests.{le-leb, lt-leb, eq-eqb, ne_eqb}
 use lib.ListN.{length, take, drop, replicate, length-append, length-replicate}
 use lib.Seq.{take_at}
 use Rattle.weighing.specs.declared.EncodeRefusal.{EncodeRefusal}
 use Rattle.bits.specs.declared.ByteCount.{ByteCount}
 use Rattle.bits.specs.Bits.{pick}
-use Rattle.hexadecimal.proofs.Inverse.{both}
 use Rattle.columns.specs.Parts.{parts_of, field}
 use Rattle.columns.specs.Numbers.{hex_digits, decimal_in, hex_in}
 use Rattle.columns.specs.Runs.{values_of}
-use Rattle.columns.specs.declared.Number.{Number}
-use Rattle.columns.specs.declared.Run.{Run}
 use Rattle.columns.proofs.Spelling.{number-below}
 use Rattle.columns.proofs.Stored.{Stored}
 use Rattle.tables.specs.Table.{Table, table_of}
@@ -28,7 +24,7 @@ use Rattle.writing.specs.Encode.{begun_of, writes_of, marks_of, encoded_of, buff
 use Rattle.writing.proofs.Loops.{length-image}
 use Rattle.frame_lines.specs.Lines.{malformed_line}
 use Rattle.compose.specs.Answers.{outcome_text, buffer_text, encode_text, comma, are_words_lem, buffer_of, table_text, known_text, pgn_line, fields_of, is_t_lem, leading, order_text, listed_text, answered}
-use Rattle.compose.specs.Records.{lists, unlisted, lists_from, records_max, texts_max, lists_of}
+use Rattle.compose.specs.Records.{lists, lists_from, records_max, texts_max, lists_of}
 use Rattle.compose.specs.Clauses.{taken, fields_after}
 use Rattle.compose.specs.declared.entries.Listed.{Listed}
 
@@ -75,43 +71,42 @@ module _ (words values lent : List ℕ) (size : ℕ) (l : size ≤ 300) {x : Res
       (λ (b : List ℕ). outcome_text (encoded_of (table_of words) (values_in values) (length lent) (length b)) ++ buffer_text (buffer_after (table_of words) (values_in values) lent b))
       is
 
-module _ (table size values lent : List ℕ) {run : Run} {words : List ℕ} {bytes : Number}
-    (w : Stored (are_words_lem table) (values_of (parts_of comma table)) run words) (b : bytes ≡ decimal_in size) where
-  abbrev good : Bool
-  good = run.good && (bytes.good && leb bytes.value 300)
-
-  are_words : good ≡ true → are_words_lem table ≡ true
-  are_words g = sym w.good ∙ (both run.good (bytes.good && leb bytes.value 300) g).0
-
-  pub table-within : good ≡ true → run.len ≤ length words
-  table-within g = w.within (are_words g)
-
-  pub table-small : good ≡ true → bytes.value ≤ 300
-  table-small g = leb-true bytes.value 300 (both bytes.good (leb bytes.value 300) (both run.good (bytes.good && leb bytes.value 300) g).1).1
-
-  pub by-table : good ≡ true → encode_text (take (run.len - 0) words) values lent (buffer_of bytes.value) ≡ table_text table size values lent
+module _ (table size values lent : List ℕ) where
+  pub no_size : decimal_in size ≡ None → malformed_line ≡ table_text table size values lent
   unfolding table_text
-  by-table g = rw (← b, ← w.good, g, w.first (are_words g))
+  no_size e = rw (e, and-false)
 
-  pub no_table : good ≡ false → malformed_line ≡ table_text table size values lent
+  pub size-large : {n : ℕ} → decimal_in size ≡ Some n → 300 < n → malformed_line ≡ table_text table size values lent
   unfolding table_text
-  no_table g = rw (← b, ← w.good, g)
+  size-large {n} e l = rw (e, lt-leb n 300 l, and-false)
+
+  module _ {run : Option ℕ} {words : List ℕ} (w : Stored (are_words_lem table) (values_of (parts_of comma table)) run words) where
+    pub no_words : run ≡ None → malformed_line ≡ table_text table size values lent
+    unfolding table_text
+    no_words e = rw (w.none e)
+
+    pub by-table : {n k : ℕ} → run ≡ Some n → decimal_in size ≡ Some k → k ≤ 300 → encode_text (take (n - 0) words) values lent (buffer_of k) ≡ table_text table size values lent
+    unfolding table_text
+    by-table {n} {k} f e l = rw (w.some f, e, le-leb k 300 l, w.first f)
 
 -- ## By a PGN
 
-module _ (s : List ℕ) {pgn : Number} (e : pgn ≡ hex_in s) where
-  pub pgn-small : pgn.good && eqb (length s) 6 ≡ true → pgn.value < 2 ^ 32
-  pgn-small g =
-      let six = eqb-true (length s) 6 (both pgn.good (eqb (length s) 6) g).1 in
-      omega (arith, number-below 16 hex_digits s (omega arith), ap (λ (n : ℕ). 16 ^ n) six, ap (λ (n : Number). n.value) e)
-
-  pub by-pgn : (values lent : List ℕ) → pgn.good && eqb (length s) 6 ≡ true → known_text (message_of_lem pgn.value) pgn.value values lent ≡ pgn_line s values lent
+module _ (s values lent : List ℕ) where
+  pub no_number : hex_in s ≡ None → malformed_line ≡ pgn_line s values lent
   unfolding pgn_line
-  by-pgn values lent g = rw (← e, g)
+  no_number e = rw e
 
-  pub no-pgn : (values lent : List ℕ) → pgn.good && eqb (length s) 6 ≡ false → malformed_line ≡ pgn_line s values lent
+  pub not-six : (length s ≡ 6 → ⊥) → malformed_line ≡ pgn_line s values lent
   unfolding pgn_line
-  no-pgn values lent g = rw (← e, g)
+  not-six n = rw (ne_eqb (length s) 6 n, and-false)
+
+  module _ {pgn : ℕ} (e : hex_in s ≡ Some pgn) (six : length s ≡ 6) where
+    pub pgn-small : pgn < 2 ^ 32
+    pgn-small = omega (arith, number-below 16 hex_digits s (omega arith), ap (λ (n : ℕ). 16 ^ n) six, ap (λ (n : Option ℕ). unwrap_or n 0) e)
+
+    pub by-pgn : known_text (message_of_lem pgn) pgn values lent ≡ pgn_line s values lent
+    unfolding pgn_line
+    by-pgn = rw (e, eq-eqb (length s) 6 six)
 
 -- ## By the first field
 
@@ -130,19 +125,18 @@ module _ (line values lent : List ℕ) {first : List ℕ} {t : Bool} (e : first 
 
 -- ## The answer
 
-module _ (line : List ℕ) (from : ℕ) (listed : Listed) (values lent : List ℕ) {room space : ℕ} (f : fields_after from line ≡ drop (leading line) (fields_of line))
-    (r : room ≡ records_max) (p : space ≡ texts_max) (e : taken listed values lent ≡ lists_from room space (lists [] []) (fields_after from line)) where
-  listed-is : taken listed values lent ≡ lists_of (drop (leading line) (fields_of line))
-  listed-is = e ∙ ap₂ (λ (a b : ℕ). lists_from a b (lists [] []) (fields_after from line)) r p ∙ ap lists_of f
+module _ (line : List ℕ) (from : ℕ) (values lent : List ℕ) (f : fields_after from line ≡ drop (leading line) (fields_of line)) (r : Option Listed) {room space : ℕ}
+    (k : room ≡ records_max) (p : space ≡ texts_max) (e : taken r values lent ≡ lists_from room space (lists [] []) (fields_after from line)) where
+  listed-is : taken r values lent ≡ lists_of (drop (leading line) (fields_of line))
+  listed-is = e ∙ ap₂ (λ (a b : ℕ). lists_from a b (lists [] []) (fields_after from line)) k p ∙ ap lists_of f
 
-  pub not_listed : listed.good ≡ false → malformed_line ≡ answered line
+  pub not_listed : r ≡ None → malformed_line ≡ answered line
   unfolding answered
-  not_listed g = let off : taken listed values lent ≡ unlisted = rw g in ap (listed_text line) (sym off ∙ listed-is)
+  not_listed g = ap (listed_text line) (rw g at listed-is)
 
-  pub ordered : listed.good ≡ true → {a b : List ℕ} → a ≡ take (listed.bytes - 0) values → b ≡ take (listed.text - 0) lent → order_text line a b ≡ answered line
+  pub ordered : {listed : Listed} → r ≡ Some listed → {a b : List ℕ} → a ≡ take (listed.bytes - 0) values → b ≡ take (listed.text - 0) lent → order_text line a b ≡ answered line
   unfolding answered
-  ordered g h k =
-      let on : taken listed values lent ≡ lists (take listed.bytes values) (take listed.text lent) = rw g in
+  ordered {listed} g h m =
       let n : listed.bytes - 0 ≡ listed.bytes = omega arith in
-      let m : listed.text - 0 ≡ listed.text = omega arith in
-      ap₂ (order_text line) (h ∙ ap (λ (i : ℕ). take i values) n) (k ∙ ap (λ (i : ℕ). take i lent) m) ∙ ap (listed_text line) (sym on ∙ listed-is)
+      let o : listed.text - 0 ≡ listed.text = omega arith in
+      ap₂ (order_text line) (h ∙ ap (λ (i : ℕ). take i values) n) (m ∙ ap (λ (i : ℕ). take i lent) o) ∙ ap (listed_text line) (rw g at listed-is)

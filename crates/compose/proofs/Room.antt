@@ -7,12 +7,12 @@ use native.Mathlib.Omega.{arith}
 use borrow.Author.Tests.{le-leb}
 use lib.Dec.{eqb, leb}
 use lib.ListN.{length, drop, length-append, length-drop}
+use Rattle.std.specs.Prelude.{Option, is_some, unwrap_or}
 use Rattle.bits.specs.Bits.{pick}
 use Rattle.hexadecimal.specs.Digits.{all_digits_lem, pairs_of}
 use Rattle.hexadecimal.proofs.Inverse.{length_pairs}
 use Rattle.columns.specs.Parts.{before, longer, parts_of, space}
 use Rattle.columns.specs.Numbers.{decimal_in, hex_in}
-use Rattle.columns.specs.declared.Number.{Number}
 use Rattle.compose.specs.Decimals.{head_of, tail_of, signed_in, double_in}
 use Rattle.compose.specs.Values.{number, text, none, numbered, unsigned_value_lem, signed_value_lem, double_value, text_value, plain_value, colon, is_encoding, encoding_head, encoded_value, kind_max, coded_value, value_of}
 use Rattle.compose.specs.Records.{record_of_lem, text_of, is_value, Lists, lists, unlisted, more, lists_from, records_max, texts_max, lists_of}
@@ -59,8 +59,8 @@ encoded-text : (t : Bool) (head : ℕ) (s rest : List ℕ) → length rest ≤ l
 encoded-text true head s rest l = omega (arith, plain-text head rest)
 encoded-text false head s rest l = omega arith
 
-by_number : (kind : ℕ) (n : Number) → length (text_of (numbered kind n)) ≡ 0
-by_number kind n = number-text n.good kind n.value
+by_number : (kind : ℕ) (n : Option ℕ) → length (text_of (numbered kind n)) ≡ 0
+by_number kind n = number-text (is_some n) kind (unwrap_or n 0)
 
 value-text : (s : List ℕ) → 2 * length (text_of (value_of s)) ≤ length s
 unfolding value_of
@@ -75,11 +75,11 @@ value-text (letter ∷ s) = by (eqb letter 117) (eqb letter 105) (eqb letter 102
     by false false true d e f = omega (arith, by_number 9 (double_in s))
     by false false false true e f = omega (arith, plain-text 11 s)
     by false false false false true f =
-        omega (arith, encoded-text (is_encoding s) (encoding_head (hex_in (head_of colon s)).value) s (tail_of colon s) (omega (arith, length-drop (suc (before colon s)) s)))
+        omega (arith, encoded-text (is_encoding s) (encoding_head (unwrap_or (hex_in (head_of colon s)) 0)) s (tail_of colon s) (omega (arith, length-drop (suc (before colon s)) s)))
     by false false false false false true =
         let kind = decimal_in (head_of colon s) in
         let word = hex_in (tail_of colon s) in
-        omega (arith, number-text (kind.good && leb kind.value kind_max && word.good) kind.value word.value)
+        omega (arith, number-text (is_some kind && leb (unwrap_or kind 0) kind_max && is_some word) (unwrap_or kind 0) (unwrap_or word 0))
     by false false false false false false = omega arith
 
 -- ## So there is always room

@@ -1,5 +1,5 @@
 -- How long an answer is. Assumes nothing.
-use Rattle.std.specs.Prelude.{Result, Ok, Err, Option, Some, None}
+use Rattle.std.specs.Prelude.{Result, Ok, Err, Option, Some, None, is_some, unwrap_or}
 use mathlib.Core.Path.{◌≡◌, refl}
 use mathlib.Core.Bool.{Bool, true, false, ◌&&◌}
 use mathlib.Core.List.{List, [], ◌∷◌}
@@ -70,11 +70,11 @@ module _ (values lent : List ℕ) where
       omega
       (arith, length-append (outcome_text x) (buffer_text after), outcome-size x, length-append (bytes_text after) (newline ∷ []), bytes-size after, after-size t (values_in values) lent buffer)
 
-  table-by : (words size : List ℕ) (a b : Bool) → leb (decimal_in size).value 300 ≡ b
-      → length (pick (a && b) (encode_text (values_of (parts_of comma words)) values lent (buffer_of (decimal_in size).value)) malformed_line) ≤ answer_max
+  table-by : (words size : List ℕ) (a b : Bool) → leb (unwrap_or (decimal_in size) 0) 300 ≡ b
+      → length (pick (a && b) (encode_text (values_of (parts_of comma words)) values lent (buffer_of (unwrap_or (decimal_in size) 0))) malformed_line) ≤ answer_max
   table-by words size true true e =
-      encode-size (values_of (parts_of comma words)) (buffer_of (decimal_in size).value)
-      (omega (arith, length-replicate {A = ℕ} (decimal_in size).value 0xa5, leb-true (decimal_in size).value 300 e))
+      encode-size (values_of (parts_of comma words)) (buffer_of (unwrap_or (decimal_in size) 0))
+      (omega (arith, length-replicate {A = ℕ} (unwrap_or (decimal_in size) 0) 0xa5, leb-true (unwrap_or (decimal_in size) 0) 300 e))
   table-by words size true false e = omega arith
   table-by words size false b e = omega arith
 
@@ -85,8 +85,8 @@ module _ (values lent : List ℕ) where
   table-size : (words size : List ℕ) → length (table_text words size values lent) ≤ answer_max
   unfolding table_text
   table-size words size =
-      rw (and_assoc (are_words_lem words) (decimal_in size).good (leb (decimal_in size).value 300))
-      (table-by words size (are_words_lem words && (decimal_in size).good) (leb (decimal_in size).value 300) refl)
+      rw (and_assoc (are_words_lem words) (is_some (decimal_in size)) (leb (unwrap_or (decimal_in size) 0) 300))
+      (table-by words size (are_words_lem words && is_some (decimal_in size)) (leb (unwrap_or (decimal_in size) 0) 300) refl)
 
   -- ## By a PGN
 
@@ -107,9 +107,9 @@ module _ (values lent : List ℕ) where
   unfolding order_text pgn_line
   order-size line =
       let first = field line 0 in
-      let pgn = (hex_in first).value in
+      let pgn = unwrap_or (hex_in first) 0 in
       either (is_t_lem first) (table_text (field line 1) (field line 2) values lent) (pgn_line first values lent) (table-size (field line 1) (field line 2))
-      (either ((hex_in first).good && eqb (length first) 6) (known_text (message_of_lem pgn) pgn values lent) malformed_line (known-size (message_of_lem pgn) pgn) (omega arith))
+      (either (is_some (hex_in first) && eqb (length first) 6) (known_text (message_of_lem pgn) pgn values lent) malformed_line (known-size (message_of_lem pgn) pgn) (omega arith))
 
 -- ## A line
 

@@ -1,5 +1,5 @@
 -- What a line is answered: docs/PROGRAMS.md, "Values in, frames out", and src/main.rt.
-use Rattle.std.specs.Prelude.{ℕ, Option, Some, None, List, [], ◌∷◌, ◌++◌, Bool, ◌&&◌, eqb, leb, length, take, drop, get_or, replicate, Result, Ok, Err}
+use Rattle.std.specs.Prelude.{ℕ, Option, Some, None, List, [], ◌∷◌, ◌++◌, Bool, ◌&&◌, eqb, leb, length, take, drop, get_or, replicate, Result, Ok, Err, is_some, unwrap_or}
 use Rattle.bits.specs.declared.ByteCount.{ByteCount}
 use Rattle.bits.specs.Bits.{pick}
 use Rattle.hexadecimal.specs.Digits.{digits_of}
@@ -62,7 +62,7 @@ are_words_lem = is_words comma 200
 
 -- "SIZE is decimal, 0 to 300"
 abbrev pub is_size : List ℕ → Bool
-is_size s = (decimal_in s).good && leb (decimal_in s).value 300
+is_size s = is_some (decimal_in s) && leb (unwrap_or (decimal_in s) 0) 300
 
 -- "the bytes of the buffer all hold A5 before the call"
 abbrev pub buffer_of : ℕ → List ℕ
@@ -71,7 +71,7 @@ buffer_of size = replicate size 0xa5
 -- "T WORDS SIZE VALUES.."
 unfoldable pub table_text : List ℕ → List ℕ → List ℕ → List ℕ → List ℕ
 table_text words size values lent =
-    pick (are_words_lem words && is_size size) (encode_text (values_of (parts_of comma words)) values lent (buffer_of (decimal_in size).value)) malformed_line
+    pick (are_words_lem words && is_size size) (encode_text (values_of (parts_of comma words)) values lent (buffer_of (unwrap_or (decimal_in size) 0))) malformed_line
 
 -- ## A line by a PGN
 
@@ -92,7 +92,7 @@ known_text None pgn values lent = unknown_line pgn
 
 -- "PGN VALUES..": "by its PGN in six digits"
 unfoldable pub pgn_line : List ℕ → List ℕ → List ℕ → List ℕ
-pgn_line s values lent = pick ((hex_in s).good && eqb (length s) 6) (known_text (message_of_lem (hex_in s).value) (hex_in s).value values lent) malformed_line
+pgn_line s values lent = pick (is_some (hex_in s) && eqb (length s) 6) (known_text (message_of_lem (unwrap_or (hex_in s) 0)) (unwrap_or (hex_in s) 0) values lent) malformed_line
 
 -- ## A line
 

@@ -1,11 +1,10 @@
 -- Signed and decimal numbers, as 64 bits: docs/PROGRAMS.md, "Values in, frames out", the values `i-42` and `f-0.25`.
-use Rattle.std.specs.Prelude.{ℕ, suc, ◌+◌, ◌-◌, ◌*◌, ◌%◌, ◌^◌, List, Bool, not, ◌&&◌, ◌||◌, eqb, leb, ltb, pos, Float, length, take, drop, get_or}
+use Rattle.std.specs.Prelude.{ℕ, suc, ◌+◌, ◌-◌, ◌*◌, ◌%◌, ◌^◌, List, Bool, not, ◌&&◌, ◌||◌, eqb, leb, ltb, pos, Float, length, take, drop, get_or, Option, is_some, unwrap_or}
 use Rattle.std.specs.Float.{binary64}
 use Rattle.std.specs.Float.Ieee.{div, neg, of_int, to_bits}
 use Rattle.bits.specs.Bits.{pick}
 use Rattle.columns.specs.Parts.{before}
 use Rattle.columns.specs.Numbers.{number_if, decimal_in}
-use Rattle.columns.specs.declared.Number.{Number}
 
 -- '-' and '.'
 abbrev pub minus : ℕ
@@ -45,11 +44,11 @@ abbrev pub complement : Bool → ℕ → ℕ
 complement negative n = pick negative ((2 ^ 64 - n) % 2 ^ 64) n
 
 -- .. if it is one
-abbrev pub with_sign : Bool → Number → Number
-with_sign negative n = number_if (n.good && is_signed negative n.value) (complement negative n.value)
+abbrev pub with_sign : Bool → Option ℕ → Option ℕ
+with_sign negative n = number_if (is_some n && is_signed negative (unwrap_or n 0)) (complement negative (unwrap_or n 0))
 
 -- a text as a signed number
-abbrev pub signed_in : List ℕ → Number
+abbrev pub signed_in : List ℕ → Option ℕ
 signed_in s = with_sign (is_negative_lem s) (decimal_in (unsigned s))
 
 -- ## "the f64 nearest to a decimal number"
@@ -61,7 +60,7 @@ digits_max = 15
 -- "digits on both sides of a point", or no point
 abbrev pub is_decimal : List ℕ → Bool
 is_decimal s =
-    (decimal_in (head_of point s)).good && ((decimal_in (tail_of point s)).good || not (is_marked point s)) && leb (length (head_of point s) + length (tail_of point s)) digits_max
+    is_some (decimal_in (head_of point s)) && (is_some (decimal_in (tail_of point s)) || not (is_marked point s)) && leb (length (head_of point s) + length (tail_of point s)) digits_max
 
 -- how many digits stand after its point
 abbrev pub places_in : List ℕ → ℕ
@@ -69,7 +68,7 @@ places_in s = length (tail_of point s)
 
 -- the number without its point
 abbrev pub whole_in_lem : List ℕ → ℕ
-whole_in_lem s = (decimal_in (head_of point s)).value * 10 ^ places_in s + (decimal_in (tail_of point s)).value
+whole_in_lem s = unwrap_or (decimal_in (head_of point s)) 0 * 10 ^ places_in s + unwrap_or (decimal_in (tail_of point s)) 0
 
 -- n over a power of ten, each of them an f64: the one division rounds
 abbrev pub quotient_of : ℕ → ℕ → Float
@@ -80,9 +79,9 @@ abbrev pub pattern_of : Bool → Float → ℕ
 pattern_of negative x = to_bits binary64 (pick negative (neg x) x)
 
 -- .. if it is one
-abbrev pub double_of : Bool → List ℕ → Number
+abbrev pub double_of : Bool → List ℕ → Option ℕ
 double_of negative s = number_if (is_decimal s) (pattern_of negative (quotient_of (whole_in_lem s) (places_in s)))
 
 -- a text as a decimal number
-abbrev pub double_in : List ℕ → Number
+abbrev pub double_in : List ℕ → Option ℕ
 double_in s = double_of (is_negative_lem s) (unsigned s)

@@ -1,9 +1,8 @@
 -- The values of a line: docs/PROGRAMS.md, "Values in, frames out", the table of values, in its order.
-use Rattle.std.specs.Prelude.{ℕ, ◌+◌, ◌*◌, ◌%◌, ◌^◌, List, [], ◌∷◌, Bool, ◌&&◌, eqb, leb, length}
+use Rattle.std.specs.Prelude.{ℕ, ◌+◌, ◌*◌, ◌%◌, ◌^◌, List, [], ◌∷◌, Bool, ◌&&◌, eqb, leb, length, Option, is_some, unwrap_or}
 use Rattle.bits.specs.Bits.{pick}
 use Rattle.hexadecimal.specs.Digits.{all_digits_lem, pairs_of}
 use Rattle.columns.specs.Numbers.{decimal_in, hex_in}
-use Rattle.columns.specs.declared.Number.{Number}
 use Rattle.compose.specs.Decimals.{is_marked, head_of, tail_of, signed_in, double_in}
 
 -- a number by its kind's code and its 64 bits; a text by the first word of its record and its bytes; or nothing of these
@@ -13,8 +12,8 @@ pub data Value : Type 0 where
   none : Value
 
 -- a number of a kind, if there is one
-abbrev pub numbered : ℕ → Number → Value
-numbered kind n = pick n.good (number kind n.value) none
+abbrev pub numbered : ℕ → Option ℕ → Value
+numbered kind n = pick (is_some n) (number kind (unwrap_or n 0)) none
 
 -- "u42": "an unsigned integer below 2^64, at most 20 digits"
 abbrev pub unsigned_value_lem : List ℕ → Value
@@ -42,7 +41,7 @@ colon = 58
 
 -- two digits before a colon
 abbrev pub is_encoding : List ℕ → Bool
-is_encoding s = is_marked colon s && eqb (length (head_of colon s)) 2 && (hex_in (head_of colon s)).good
+is_encoding s = is_marked colon s && eqb (length (head_of colon s)) 2 && is_some (hex_in (head_of colon s))
 
 -- byte 1 of the record says that byte 2 is the encoding byte
 abbrev pub encoding_head : ℕ → ℕ
@@ -50,7 +49,7 @@ encoding_head x = 11 + 2 ^ 8 + x * 2 ^ 16
 
 -- "e01:4142": "text with its encoding byte"
 abbrev pub encoded_value : List ℕ → Value
-encoded_value s = pick (is_encoding s) (text_value (encoding_head (hex_in (head_of colon s)).value) (tail_of colon s)) none
+encoded_value s = pick (is_encoding s) (text_value (encoding_head (unwrap_or (hex_in (head_of colon s)) 0)) (tail_of colon s)) none
 
 -- the largest code of a kind
 abbrev pub kind_max : ℕ
@@ -59,8 +58,8 @@ kind_max = 255
 -- "v10:3F800000": "64 bits by the code of their kind"
 abbrev pub coded_value : List ℕ → Value
 coded_value s =
-    pick ((decimal_in (head_of colon s)).good && leb (decimal_in (head_of colon s)).value kind_max && (hex_in (tail_of colon s)).good)
-    (number (decimal_in (head_of colon s)).value (hex_in (tail_of colon s)).value)
+    pick (is_some (decimal_in (head_of colon s)) && leb (unwrap_or (decimal_in (head_of colon s)) 0) kind_max && is_some (hex_in (tail_of colon s)))
+    (number (unwrap_or (decimal_in (head_of colon s)) 0) (unwrap_or (hex_in (tail_of colon s)) 0))
     none
 
 -- a value, by its letter

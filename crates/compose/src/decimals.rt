@@ -2,10 +2,9 @@
 ghost use Rattle.std.specs.Prelude.{◌^◌, ◌≤◌, ◌≡◌, pos};
 ghost use Rattle.std.specs.Float.{binary64};
 ghost use Rattle.std.specs.Float.Ieee.{div, of_int};
-ghost use Rattle.columns.specs.Numbers.{number, no_number_lem};
-ghost use Rattle.compose.specs.Decimals.{is_negative_lem, unsigned, head_of, tail_of, is_signed, complement, with_sign, signed_in, pattern_of, double_of, double_in};
+ghost use Rattle.compose.specs.Decimals.{is_negative_lem, unsigned, head_of, tail_of, is_signed, complement, signed_in, pattern_of, double_of, double_in};
 
-use columns::{Number, decimal, part, part_end};
+use columns::{decimal, part, part_end};
 use rounding::nearest_u64_to_f64;
 
 // A number has at most so many digits: as an integer it is then below 2^53.
@@ -13,24 +12,6 @@ const DIGITS: usize = 15;
 
 // How far from 0 the least number of 64 bits is.
 const LEAST: u64 = 0x8000_0000_0000_0000;
-
-fn no_number() -> Number
-    ensures { result ≡ no_number_lem }
-{
-    Number {
-        good: false,
-        value: 0,
-    }
-}
-
-fn number(n: u64) -> Number
-    ensures { result ≡ number n }
-{
-    Number {
-        good: true,
-        value: n,
-    }
-}
 
 // What stands before the first mark.
 pub(crate) fn head(s: &[u8], mark: u8) -> &[u8]
@@ -89,20 +70,17 @@ fn complement(negative: bool, n: u64) -> u64
     n
 }
 
-fn with_sign(negative: bool, n: Number) -> Number
-    ensures { result ≡ with_sign negative n }
-{
-    if n.good & is_signed(negative, n.value) {
-        return number(complement(negative, n.value));
-    }
-    no_number()
-}
-
 // A number of 64 bits with its sign, in two's complement.
-pub(crate) fn signed(s: &[u8]) -> Number
+pub(crate) fn signed(s: &[u8]) -> Option<u64>
     ensures { result ≡ signed_in s.now }
 {
-    with_sign(is_negative(s), decimal(unsigned(s)))
+    let negative = is_negative(s);
+    let n = decimal(unsigned(s))?;
+    if is_signed(negative, n) {
+        Some(complement(negative, n))
+    } else {
+        None
+    }
 }
 
 // Ten to the power of so many places.
@@ -134,25 +112,26 @@ fn pattern(negative: bool, x: f64) -> u64
 }
 
 // A decimal number by its digits before the point and after it.
-fn unsigned_double(s: &[u8], negative: bool) -> Number
+fn unsigned_double(s: &[u8], negative: bool) -> Option<u64>
     ensures { result ≡ double_of negative s.now }
 {
     let whole = head(s, b'.');
     let rest = tail(s, b'.');
-    let a = decimal(whole);
+    let a = decimal(whole)?;
     let b = decimal(rest);
-    let places = rest.len();
-    let pointed = whole.len() < s.len();
-    if a.good & (b.good | !pointed) & (whole.len() + places <= DIGITS) {
-        let power = ten(places);
-        let n = a.value * power + b.value;
-        return number(pattern(negative, quotient(n, power)));
+    if whole.len() < s.len() && b.is_none() {
+        return None;
     }
-    no_number()
+    if DIGITS < whole.len() + rest.len() {
+        return None;
+    }
+    let power = ten(rest.len());
+    let n = a * power + b.unwrap_or(0);
+    Some(pattern(negative, quotient(n, power)))
 }
 
 // The f64 nearest to a decimal number with its sign.
-pub(crate) fn double(s: &[u8]) -> Number
+pub(crate) fn double(s: &[u8]) -> Option<u64>
     ensures { result ≡ double_in s.now }
 {
     unsigned_double(unsigned(s), is_negative(s))

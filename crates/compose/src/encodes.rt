@@ -39,11 +39,13 @@ fn put_known(pgn: u32, values: &[u8], lent: &[u8], page: &mut Page<'_>)
 pub(crate) fn put_by_pgn(s: &[u8], values: &[u8], lent: &[u8], page: &mut Page<'_>)
     ensures { PutsOn page.old (pgn_line s.now values.now lent.now) page.new }
 {
-    let pgn = columns::hex(s);
-    if pgn.good & (s.len() == PGN_DIGITS) {
-        return put_known(pgn.value as u32, values, lent, page);
+    let Some(pgn) = columns::hex(s) else {
+        return put_malformed(page);
+    };
+    if s.len() != PGN_DIGITS {
+        return put_malformed(page);
     }
-    put_malformed(page);
+    put_known(pgn as u32, values, lent, page);
 }
 
 // An encode by a table into a buffer of so many bytes, and the buffer after it.
@@ -68,12 +70,15 @@ pub(crate) fn put_by_table(
     ensures { PutsOn page.old (table_text table.now size.now values.now lent.now) page.new }
 {
     let mut words = [0u64; 200];
-    let run = columns::words(table, b',', &mut words);
-    let n = run.len;
-    let bytes = columns::decimal(size);
-    let count = bytes.value as usize;
-    if run.good & (bytes.good & (count <= SIZE_MAX)) {
-        return put_sized(&words[0..n], count, values, lent, page);
+    let (Some(n), Some(bytes)) = (
+        columns::words(table, b',', &mut words),
+        columns::decimal(size),
+    ) else {
+        return put_malformed(page);
+    };
+    let count = bytes as usize;
+    if SIZE_MAX < count {
+        return put_malformed(page);
     }
-    put_malformed(page);
+    put_sized(&words[0..n], count, values, lent, page);
 }

@@ -1,13 +1,13 @@
 // The values of a line: each a record of 24 bytes, as `offers` reads them, its text in the lent text.
-ghost use Rattle.std.specs.Prelude.{◌≤◌, ◌≡◌, true, length};
+ghost use Rattle.std.specs.Prelude.{◌≤◌, ◌≡◌, length, IfSome};
 ghost use Rattle.text.specs.Sheet.{Puts, PutsOn};
-ghost use Rattle.compose.specs.Values.{numbered, text_value, encoded_value, coded_value, none, value_of};
+ghost use Rattle.compose.specs.Values.{numbered, text_value, encoded_value, coded_value, value_of};
 ghost use Rattle.compose.specs.Records.{low_bytes, record_by};
-ghost use Rattle.compose.specs.Clauses.{entry, entry_of, told, told_by, no_listed, Adds, Collects};
+ghost use Rattle.compose.specs.Clauses.{entry, entry_of, told, told_by, Adds, Collects};
 
 use crate::decimals;
 use crate::decimals::{head, tail};
-use columns::{Number, decimal, field_end, part};
+use columns::{decimal, field_end, part};
 use text::Page;
 
 // The codes of the kinds that have a letter.
@@ -30,7 +30,6 @@ const KIND_MAX: u64 = 255;
 // a text's length.
 #[derive(Clone, Copy)]
 pub(crate) struct Entry {
-    pub(crate) good: bool,
     pub(crate) head: u64,
     pub(crate) word: u64,
     pub(crate) len: usize,
@@ -39,91 +38,71 @@ pub(crate) struct Entry {
 // How many bytes the records of a line take, and its texts.
 #[derive(Clone, Copy)]
 pub(crate) struct Listed {
-    pub(crate) good: bool,
     pub(crate) bytes: usize,
     pub(crate) text: usize,
 }
 
 fn number(kind: u64, word: u64) -> Entry
-    ensures { result ≡ entry true kind word 0 }
+    ensures { result ≡ entry kind word 0 }
 {
     Entry {
-        good: true,
         head: kind,
         word,
         len: 0,
     }
 }
 
-fn no_entry() -> Entry
-    ensures { result ≡ entry_of 0 none }
-{
-    Entry {
-        good: false,
-        head: 0,
-        word: 0,
-        len: 0,
-    }
-}
-
-fn of_kind(kind: u64, n: Number) -> Entry
+fn of_kind(kind: u64, n: Option<u64>) -> Option<Entry>
     ensures { result ≡ entry_of 0 (numbered kind n) }
 {
-    if n.good {
-        return number(kind, n.value);
-    }
-    no_entry()
+    Some(number(kind, n?))
 }
 
 // BYTES, at the end of the lent text.
-fn text(s: &[u8], head: u64, lent: &mut [u8], used: usize) -> Entry
+fn text(s: &[u8], head: u64, lent: &mut [u8], used: usize) -> Option<Entry>
     requires { used ≤ length «lent».old }
     ensures { told result «lent».new ≡ told_by used «lent».old (text_value head s.now) }
 {
-    let run = columns::pairs(s, &mut lent[used..]);
-    if !run.good {
-        return no_entry();
-    }
-    Entry {
-        good: true,
+    let len = columns::pairs(s, &mut lent[used..])?;
+    Some(Entry {
         head,
         word: used as u64,
-        len: run.len,
-    }
+        len,
+    })
 }
 
 // XX:BYTES
-fn encoded(s: &[u8], lent: &mut [u8], used: usize) -> Entry
+fn encoded(s: &[u8], lent: &mut [u8], used: usize) -> Option<Entry>
     requires { used ≤ length «lent».old }
     ensures { told result «lent».new ≡ told_by used «lent».old (encoded_value s.now) }
 {
     let x = head(s, b':');
-    let e = columns::hex(x);
-    if (x.len() < s.len()) & (x.len() == 2) & e.good {
-        return text(tail(s, b':'), ENCODED + e.value * 65536, lent, used);
+    if x.len() == s.len() || x.len() != 2 {
+        return None;
     }
-    no_entry()
+    let e = columns::hex(x)?;
+    text(tail(s, b':'), ENCODED + e * 65536, lent, used)
 }
 
 // KIND:BITS
-fn coded(s: &[u8]) -> Entry
+fn coded(s: &[u8]) -> Option<Entry>
     ensures { result ≡ entry_of 0 (coded_value s.now) }
 {
-    let kind = decimal(head(s, b':'));
-    let word = columns::hex(tail(s, b':'));
-    if kind.good & (kind.value <= KIND_MAX) & word.good {
-        return number(kind.value, word.value);
+    let kind = decimal(head(s, b':'))?;
+    let word = columns::hex(tail(s, b':'))?;
+    if KIND_MAX < kind {
+        return None;
     }
-    no_entry()
+    Some(number(kind, word))
 }
 
 // A value by its letter. So many bytes of the lent text are used before it.
-fn entry_of(s: &[u8], lent: &mut [u8], used: usize) -> Entry
+fn entry_of(s: &[u8], lent: &mut [u8], used: usize) -> Option<Entry>
     requires { used ≤ length «lent».old }
     ensures { told result «lent».new ≡ told_by used «lent».old (value_of s.now) }
 {
     if s.len() == 0 {
-        return no_entry();
+        return None;
     }
     let rest = &s[1..];
     match s[0] {
@@ -133,7 +112,7 @@ fn entry_of(s: &[u8], lent: &mut [u8], used: usize) -> Entry
         b't' => text(rest, BYTES, lent, used),
         b'e' => encoded(rest, lent, used),
         b'v' => coded(rest),
-        _ => no_entry(),
+        _ => None,
     }
 }
 
@@ -161,55 +140,39 @@ fn put_entry(values: &mut [u8], at: usize, e: Entry) -> usize
     page.at
 }
 
-fn none_listed() -> Listed
-    ensures { result ≡ no_listed }
-{
-    Listed {
-        good: false,
-        bytes: 0,
-        text: 0,
-    }
-}
-
 // One value more.
-fn list_value(s: &[u8], values: &mut [u8], lent: &mut [u8], listed: Listed) -> Listed
-    requires { (listed.good ≡ true) × ((listed.bytes ≤ length values.old) × (listed.text ≤ length «lent».old)) }
+fn list_value(s: &[u8], values: &mut [u8], lent: &mut [u8], listed: Listed) -> Option<Listed>
+    requires { (listed.bytes ≤ length values.old) × (listed.text ≤ length «lent».old) }
     ensures adds { Adds result values.new «lent».new listed values.old «lent».old s.now }
-    ensures bytes_in_bounds { (result.bytes ≤ length values.old) × (result.text ≤ length «lent».old) }
+    ensures in_bounds { IfSome result (λ l. (l.bytes ≤ length values.old) × (l.text ≤ length «lent».old)) }
 {
     let used = listed.text;
-    let e = entry_of(s, lent, used);
-    if !e.good {
-        return none_listed();
-    }
+    let e = entry_of(s, lent, used)?;
     let to = put_entry(values, listed.bytes, e);
     if values.len() < to {
-        return none_listed();
+        return None;
     }
-    Listed {
-        good: true,
+    Some(Listed {
         bytes: to,
         text: used + e.len,
-    }
+    })
 }
 
 // The values that the fields are which come after a place where one ends.
-pub(crate) fn list_values(line: &[u8], from: usize, values: &mut [u8], lent: &mut [u8]) -> Listed
+pub(crate) fn list_values(
+    line: &[u8],
+    from: usize,
+    values: &mut [u8],
+    lent: &mut [u8],
+) -> Option<Listed>
     ensures { Collects result values.new «lent».new line.now from values.old «lent».old }
 {
     let mut end = from;
-    let mut listed = Listed {
-        good: true,
-        bytes: 0,
-        text: 0,
-    };
+    let mut listed = Listed { bytes: 0, text: 0 };
     while end < line.len() {
         let start = end + 1;
         end = field_end(line, start);
-        listed = list_value(part(line, start, end), values, lent, listed);
-        if !listed.good {
-            return listed;
-        }
+        listed = list_value(part(line, start, end), values, lent, listed)?;
     }
-    listed
+    Some(listed)
 }

@@ -81,10 +81,10 @@ impl Answers for Orders {
     ghost answered = { answered };
 
     fn put_answer(&mut self, line: &[u8], page: &mut Page<'_>) {
-        let listed = list_values(line, values_from(line), &mut self.values, &mut self.lent);
-        if !listed.good {
+        let Some(listed) = list_values(line, values_from(line), &mut self.values, &mut self.lent)
+        else {
             return put_malformed(page);
-        }
+        };
         put_order(
             line,
             part(&self.values, 0, listed.bytes),

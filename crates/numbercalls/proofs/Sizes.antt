@@ -5,6 +5,7 @@ use Prim.Native.Nat.{ℕ, zero, suc, ◌≤◌, max}
 use native.Mathlib.Omega.{arith}
 use lib.Dec.{eqb}
 use lib.ListN.{length, get_or}
+use Rattle.std.specs.Prelude.{Option, Some, None, is_some, unwrap_or}
 use Rattle.text.specs.Digits.{spaced_hex}
 use Rattle.text.specs.Refusals.{malformed_text}
 use Rattle.text.proofs.Sizes.{either, plus, hex-size, refused-size}
@@ -17,7 +18,7 @@ use Rattle.samopute_c.specs.Values.{scale_status, scale_cells, raw_offered, raw_
 use Rattle.numbercalls.specs.declared.line_fields.Field.{Field}
 use Rattle.numbercalls.specs.Names.{value_kind_names, scale_name, raw_name}
 use Rattle.numbercalls.specs.Fields.{placed, field_in}
-use Rattle.numbercalls.specs.Answers.{bad_width, refusal_text, silence_text, value_text, scale_answer, raw_answer, descriptor_of, scale_call, raw_call, scale_text, is_kind_lem, raw_text, is_call, call_text, answer_text, answered}
+use Rattle.numbercalls.specs.Answers.{bad_width, refusal_text, silence_text, value_text, scale_answer, raw_answer, descriptor_of, scale_call, raw_call, scale_text, is_kind_lem, raw_text, is_call, call_text, fielded_text, answer_text, answered}
 
 -- no answer has more bytes, without its newline
 abbrev text_max : ℕ
@@ -63,16 +64,16 @@ module _ (f : Field) where
   scale-size : (raw : List ℕ) → length (scale_text f raw) ≤ text_max
   unfolding scale_call
   scale-size raw =
-      let v = (hex_in raw).value in
-      either (hex_in raw).good (scale_call f v) malformed_text text_max (scale-answer-size (scale_status (descriptor_of f)) (scale_cells (descriptor_of f) v)) (omega arith)
+      let v = unwrap_or (hex_in raw) 0 in
+      either (is_some (hex_in raw)) (scale_call f v) malformed_text text_max (scale-answer-size (scale_status (descriptor_of f)) (scale_cells (descriptor_of f) v)) (omega arith)
 
   raw-size : (kind value : List ℕ) → length (raw_text f kind value) ≤ text_max
   unfolding raw_call
   raw-size kind value =
       let code = placed kind value_kind_names in
-      let v = (hex_in value).value in
-      let x = raw_offered (descriptor_of f) (offer_of_lem code.value v) in
-      either (is_kind_lem code && (hex_in value).good) (raw_call f code.value v) malformed_text text_max (raw-answer-size (number_of x) (raw_cells x)) (omega arith)
+      let v = unwrap_or (hex_in value) 0 in
+      let x = raw_offered (descriptor_of f) (offer_of_lem (unwrap_or code 0) v) in
+      either (is_kind_lem code && is_some (hex_in value)) (raw_call f (unwrap_or code 0) v) malformed_text text_max (raw-answer-size (number_of x) (raw_cells x)) (omega arith)
 
   call-size : (line : List ℕ) → length (call_text f line) ≤ text_max
   call-size line =
@@ -82,4 +83,8 @@ module _ (f : Field) where
 pub answer-size : (line : List ℕ) → length (answered line) ≤ 86
 unfolding answered
 answer-size line =
-    plus (answer_text line) (newline ∷ []) text_max 1 (either (field_in line).good _ malformed_text text_max (call-size (field_in line) line) (omega arith)) (omega arith)
+    plus (answer_text line) (newline ∷ []) text_max 1 (by (field_in line)) (omega arith)
+  where
+    by : (f : Option Field) → length (fielded_text f line) ≤ text_max
+    by None = omega arith
+    by (Some f) = call-size f line

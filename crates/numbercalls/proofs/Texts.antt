@@ -2,23 +2,23 @@
 use mathlib.Core.Path.{◌≡◌, ap₂}
 use mathlib.Core.Bool.{Bool, true, false, ◌&&◌, and-false}
 use mathlib.Core.List.{List, [], ◌∷◌}
-use Prim.Native.Nat.{ℕ}
-use borrow.Author.Tests.{eq-eqb, ne_eqb}
+use Prim.Native.Nat.{ℕ, ◌<◌}
+use native.Mathlib.Omega.{arith}
+use borrow.Author.Tests.{eq-eqb, ne_eqb, lt-ltb}
 use lib.Dec.{eqb}
 use lib.ListN.{get_or, take}
 use Rattle.text.specs.Refusals.{refused_text, malformed_text}
 use Rattle.columns.specs.Parts.{space, field, marks_in}
 use Rattle.columns.specs.Numbers.{hex_in}
 use Rattle.columns.specs.Names.{same}
-use Rattle.columns.specs.declared.Number.{Number}
+use Rattle.std.specs.Prelude.{Some, None}
 use Rattle.offers.specs.Records.{offer_of_lem}
 use Rattle.samopute_c.specs.Values.{scale_status, scale_cells}
 use Rattle.samopute_c.specs.Clauses.{GivesRaw}
-use Rattle.numbercalls.specs.declared.line_fields.Code.{Code}
 use Rattle.numbercalls.specs.declared.line_fields.Field.{Field}
 use Rattle.numbercalls.specs.Names.{value_kind_names, scale_name, raw_name}
-use Rattle.numbercalls.specs.Fields.{placed, field_in}
-use Rattle.numbercalls.specs.Answers.{refusal_text, silence_text, value_text, scale_answer, ok_text, raw_answer, descriptor_of, scale_call, raw_call, scale_text, is_kind_lem, raw_text, is_call, call_text, answer_text}
+use Rattle.numbercalls.specs.Fields.{placed}
+use Rattle.numbercalls.specs.Answers.{refusal_text, silence_text, value_text, scale_answer, ok_text, raw_answer, descriptor_of, scale_call, raw_call, scale_text, raw_text, is_call, call_text}
 
 -- ## By the status
 
@@ -53,26 +53,27 @@ module _ {silence : ℕ} where
 
 -- ## The calls, by what was read of their words
 
-module _ (f : Field) (value : List ℕ) {v : Number} (e : v ≡ hex_in value) where
-  pub no-raw : v.good ≡ false → malformed_text ≡ scale_text f value
-  no-raw g = rw (← e, g)
-
-  pub scaled : v.good ≡ true → {status : ℕ} {cells : List ℕ} → (status ≡ scale_status (descriptor_of f)) × (cells ≡ scale_cells (descriptor_of f) v.value)
+module _ (f : Field) (value : List ℕ) where
+  pub scaled : {v : ℕ} → hex_in value ≡ Some v → {status : ℕ} {cells : List ℕ} → (status ≡ scale_status (descriptor_of f)) × (cells ≡ scale_cells (descriptor_of f) v)
       → scale_answer status cells ≡ scale_text f value
   unfolding scale_call
-  scaled g h = rw (← e, g) (ap₂ scale_answer h.0 h.1)
+  scaled e h = rw e (ap₂ scale_answer h.0 h.1)
 
-  module _ (kind : List ℕ) {code : Code} (k : code ≡ placed kind value_kind_names) {t : Bool} (is : t ≡ is_kind_lem code) where
-    pub no_kind : t ≡ false → malformed_text ≡ raw_text f kind value
-    no_kind g = rw (← k, ← is, g)
+  module _ (kind : List ℕ) where
+    pub no_kind : placed kind value_kind_names ≡ None → malformed_text ≡ raw_text f kind value
+    no_kind k = rw k
 
-    pub no_value : v.good ≡ false → malformed_text ≡ raw_text f kind value
-    no_value g = rw (← k, ← is, ← e, g, and-false)
+    pub no_value : hex_in value ≡ None → malformed_text ≡ raw_text f kind value
+    no_value e = rw (e, and-false)
 
-    pub back : t ≡ true → v.good ≡ true → {status : ℕ} {cells : List ℕ} → GivesRaw status cells (descriptor_of f) (offer_of_lem code.value v.value)
-        → raw_answer status cells ≡ raw_text f kind value
-    unfolding raw_call
-    back g l h = rw (← k, ← is, g, ← e, l) (ap₂ raw_answer h.0 h.1)
+    module _ {code : ℕ} (k : placed kind value_kind_names ≡ Some code) where
+      pub first_kind : code ≡ 0 → malformed_text ≡ raw_text f kind value
+      first_kind z = rw (k, z)
+
+      pub back : {v : ℕ} → (code ≡ 0 → ⊥) → hex_in value ≡ Some v → {status : ℕ} {cells : List ℕ} → GivesRaw status cells (descriptor_of f) (offer_of_lem code v)
+          → raw_answer status cells ≡ raw_text f kind value
+      unfolding raw_call
+      back some e h = let l : 0 < code = omega arith in rw (k, lt-ltb 0 code l, e) (ap₂ raw_answer h.0 h.1)
 
 -- ## A line
 
@@ -89,10 +90,3 @@ module _ (f : Field) (line : List ℕ) {t : Bool} (is : t ≡ is_call scale_name
 
     pub no_call : u ≡ false → malformed_text ≡ call_text f line
     no_call g = rw (← is, no, ← is-raw, g)
-
-module _ (line : List ℕ) {f : Field} (e : f ≡ field_in line) where
-  pub no_field : f.good ≡ false → malformed_text ≡ answer_text line
-  no_field g = rw (← e, g)
-
-  pub by_call : f.good ≡ true → call_text f line ≡ answer_text line
-  by_call g = rw (← e, g)

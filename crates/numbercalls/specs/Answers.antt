@@ -1,5 +1,5 @@
 -- What a line is answered: src/main.rt, "scale .. RAW" and "raw .. VALUEKIND VALUE".
-use Rattle.std.specs.Prelude.{ℕ, List, [], ◌∷◌, ◌++◌, Bool, ◌&&◌, eqb, ltb, get_or}
+use Rattle.std.specs.Prelude.{ℕ, List, [], ◌∷◌, ◌++◌, Bool, ◌&&◌, eqb, ltb, get_or, Option, Some, None, is_some, unwrap_or}
 use Rattle.bits.specs.Bits.{pick}
 use Rattle.text.specs.Digits.{spaced_hex}
 use Rattle.text.specs.Refusals.{refused_text, malformed_text}
@@ -12,7 +12,6 @@ use Rattle.descriptor.specs.declared.FieldDescriptor.{FieldDescriptor}
 use Rattle.numbers.specs.Refusals.{number_of}
 use Rattle.offers.specs.Records.{offer_of_lem}
 use Rattle.samopute_c.specs.Values.{field_of, scale_status, scale_cells, raw_offered, raw_cells}
-use Rattle.numbercalls.specs.declared.line_fields.Code.{Code}
 use Rattle.numbercalls.specs.declared.line_fields.Field.{Field}
 use Rattle.numbercalls.specs.Names.{value_kind_names, scale_name, raw_name}
 use Rattle.numbercalls.specs.Fields.{placed, field_in}
@@ -64,17 +63,17 @@ raw_call f kind value = let x = raw_offered (descriptor_of f) (offer_of_lem kind
 
 -- by the raw's digits: "64 bits in at most 16 digits"
 abbrev pub scale_text : Field → List ℕ → List ℕ
-scale_text f raw = pick (hex_in raw).good (scale_call f (hex_in raw).value) malformed_text
+scale_text f raw = pick (is_some (hex_in raw)) (scale_call f (unwrap_or (hex_in raw) 0)) malformed_text
 
 -- whether a code is that of a kind: "U64 to U8, I64 to I8, F64, F32 or Bytes"
-abbrev pub is_kind_lem : Code → Bool
-is_kind_lem code = code.good && ltb 0 code.value
+abbrev pub is_kind_lem : Option ℕ → Bool
+is_kind_lem code = is_some code && ltb 0 (unwrap_or code 0)
 
 -- the code of a value's kind by its name, and the value's digits
 abbrev pub raw_text : Field → List ℕ → List ℕ → List ℕ
 raw_text f kind value =
     let code = placed kind value_kind_names in
-    pick (is_kind_lem code && (hex_in value).good) (raw_call f code.value (hex_in value).value) malformed_text
+    pick (is_kind_lem code && is_some (hex_in value)) (raw_call f (unwrap_or code 0) (unwrap_or (hex_in value) 0)) malformed_text
 
 -- ## A line
 
@@ -87,9 +86,14 @@ abbrev pub call_text : Field → List ℕ → List ℕ
 call_text f line =
     pick (is_call scale_name 6 line) (scale_text f (field line 6)) (pick (is_call raw_name 7 line) (raw_text f (field line 6) (field line 7)) malformed_text)
 
+-- .. if it has one
+abbrev pub fielded_text : Option Field → List ℕ → List ℕ
+fielded_text None line = malformed_text
+fielded_text (Some f) line = call_text f line
+
 -- "a line that is no call [..] is answered F 14"
 abbrev pub answer_text : List ℕ → List ℕ
-answer_text line = pick (field_in line).good (call_text (field_in line) line) malformed_text
+answer_text line = fielded_text (field_in line) line
 
 -- with its newline
 unfoldable pub answered : List ℕ → List ℕ

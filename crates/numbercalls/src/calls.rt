@@ -1,9 +1,9 @@
 // The two calls, and the text of their answers.
 ghost use Rattle.std.specs.Prelude.{◌≡◌};
 ghost use Rattle.text.specs.Sheet.{PutsOn};
-ghost use Rattle.numbercalls.specs.Answers.{refusal_text, silence_text, value_text, scale_answer, scale_text, ok_text, raw_answer, is_kind_lem, raw_text};
+ghost use Rattle.numbercalls.specs.Answers.{refusal_text, silence_text, value_text, scale_answer, scale_text, ok_text, raw_answer, raw_text};
 
-use crate::line_fields::{Code, Field, place_of};
+use crate::line_fields::{Field, place_of};
 use columns::word;
 use text::Page;
 
@@ -50,10 +50,9 @@ fn put_scale_answer(page: &mut Page<'_>, status: u32, answer: &[u64; 4])
 pub(crate) fn put_scale(f: Field, digits: &[u8], page: &mut Page<'_>)
     ensures { PutsOn page.old (scale_text f digits.now) page.new }
 {
-    let raw = columns::hex(digits);
-    if !raw.good {
+    let Some(raw) = columns::hex(digits) else {
         return page.put_malformed();
-    }
+    };
     let mut answer = [0u64; 4];
     let status = samopute_c::samopute_scale(
         f.kind,
@@ -61,7 +60,7 @@ pub(crate) fn put_scale(f: Field, digits: &[u8], page: &mut Page<'_>)
         f.sign,
         f.mark,
         f.resolution,
-        raw.value,
+        raw,
         &mut answer,
     );
     put_scale_answer(page, status, &answer);
@@ -83,21 +82,13 @@ fn put_raw_answer(page: &mut Page<'_>, status: u32, answer: &[u64; 3])
     put_ok(page, answer[0]);
 }
 
-fn is_kind(code: Code) -> bool
-    ensures { result ≡ is_kind_lem code }
-{
-    code.good & (0 < code.value)
-}
-
 pub(crate) fn put_raw(f: Field, kind: &[u8], digits: &[u8], page: &mut Page<'_>)
     ensures { PutsOn page.old (raw_text f kind.now digits.now) page.new }
 {
-    let code = place_of(kind, &VALUE_KINDS);
-    let value = columns::hex(digits);
-    if !is_kind(code) {
+    let (Some(code), Some(value)) = (place_of(kind, &VALUE_KINDS), columns::hex(digits)) else {
         return page.put_malformed();
-    }
-    if !value.good {
+    };
+    if code == 0 {
         return page.put_malformed();
     }
     let mut answer = [0u64; 3];
@@ -107,8 +98,8 @@ pub(crate) fn put_raw(f: Field, kind: &[u8], digits: &[u8], page: &mut Page<'_>)
         f.sign,
         f.mark,
         f.resolution,
-        code.value,
-        value.value,
+        code,
+        value,
         &mut answer,
     );
     put_raw_answer(page, status, &answer);

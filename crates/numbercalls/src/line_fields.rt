@@ -1,20 +1,12 @@
 // A field as the boundary takes it, by the words of a line.
-ghost use Rattle.std.specs.Prelude.{◌≡◌};
+ghost use Rattle.std.specs.Prelude.{◌≡◌, true};
 ghost use Rattle.columns.specs.Parts.{space, parts_of};
-ghost use Rattle.numbercalls.specs.Fields.{no_code_lem, code_if_lem, placed, numbered, named, bits_by, kind_in, width_in, sign_in, mark_in, resolution_in, field_by_lem, field_in};
+ghost use Rattle.numbercalls.specs.Fields.{code_if_lem, placed, numbered, named, bits_by, kind_in, width_in, sign_in, mark_in, field_in};
 
 use columns::word;
 
-// A number of 32 bits, where there is one.
-#[derive(Clone, Copy)]
-pub(crate) struct Code {
-    pub(crate) good: bool,
-    pub(crate) value: u32,
-}
-
 #[derive(Clone, Copy)]
 pub(crate) struct Field {
-    pub(crate) good: bool,
     pub(crate) kind: u32,
     pub(crate) width: u32,
     pub(crate) sign: u32,
@@ -22,71 +14,53 @@ pub(crate) struct Field {
     pub(crate) resolution: u32,
 }
 
-fn no_code() -> Code
-    ensures { result ≡ no_code_lem }
-{
-    Code {
-        good: false,
-        value: 0,
-    }
-}
-
 // A number that is to fit 32 bits.
-fn code_if(good: bool, value: u64) -> Code
-    ensures { result ≡ code_if_lem good value }
+fn code(value: u64) -> Option<u32>
+    ensures { result ≡ code_if_lem true value }
 {
-    if !good {
-        return no_code();
-    }
-    if 0xffff_ffff < value {
-        return no_code();
-    }
-    Code {
-        good: true,
-        value: value as u32,
-    }
+    u32::try_from(value).ok()
 }
 
 // The place of a name among words.
-pub(crate) fn place_of(name: &[u8], words: &[u8]) -> Code
+pub(crate) fn place_of(name: &[u8], words: &[u8]) -> Option<u32>
     ensures { result ≡ placed name.now (parts_of space words.now) }
 {
     let place = columns::place_in(name, words);
-    let last = columns::marks(words, b' ');
-    code_if(place <= last, place as u64)
+    if columns::marks(words, b' ') < place {
+        return None;
+    }
+    code(place as u64)
 }
 
 // The number that a text is in decimal.
-fn number_of(s: &[u8]) -> Code
+#[tactic(auto, unfolding(crate::specs::Fields::numbered))]
+fn number_of(s: &[u8]) -> Option<u32>
     ensures { result ≡ numbered s.now }
 {
-    let digits = columns::decimal(s);
-    code_if(digits.good, digits.value)
+    code(columns::decimal(s)?)
 }
 
 // The place of a name among words, or the number that it is.
-fn place_or_number(name: &[u8], words: &[u8]) -> Code
+#[tactic(auto, unfolding(crate::specs::Fields::named))]
+fn place_or_number(name: &[u8], words: &[u8]) -> Option<u32>
     ensures { result ≡ named name.now (parts_of space words.now) }
 {
-    let place = place_of(name, words);
-    if place.good {
-        return place;
-    }
-    number_of(name)
+    place_of(name, words).or_else(|| number_of(name))
 }
 
 // A float's bits in eight digits; without a mark, '-' says that there are none.
-fn bits_of(s: &[u8], mark: u32) -> Code
+#[tactic(auto, unfolding(crate::specs::Fields::bits_by))]
+fn bits_of(s: &[u8], mark: u32) -> Option<u32>
     ensures { result ≡ bits_by mark s.now }
 {
     if columns::same(s, b"-") {
-        return code_if(mark == 0, 0);
+        return if mark == 0 { Some(0) } else { None };
     }
-    let bits = columns::hex(s);
-    code_if(bits.good & (s.len() == 8), bits.value)
+    let bits = columns::hex(s)?;
+    if s.len() == 8 { code(bits) } else { None }
 }
 
-fn kind_of(line: &[u8]) -> Code
+fn kind_of(line: &[u8]) -> Option<u32>
     ensures { result ≡ kind_in line.now }
 {
     place_or_number(
@@ -95,53 +69,35 @@ fn kind_of(line: &[u8]) -> Code
     )
 }
 
-fn width_of(line: &[u8]) -> Code
+fn width_of(line: &[u8]) -> Option<u32>
     ensures { result ≡ width_in line.now }
 {
     number_of(word(line, 2))
 }
 
-fn sign_of(line: &[u8]) -> Code
+fn sign_of(line: &[u8]) -> Option<u32>
     ensures { result ≡ sign_in line.now }
 {
     place_of(word(line, 3), b"u s")
 }
 
-fn mark_of(line: &[u8]) -> Code
+fn mark_of(line: &[u8]) -> Option<u32>
     ensures { result ≡ mark_in line.now }
 {
     place_or_number(word(line, 4), b"- S D")
 }
 
-fn resolution_of(line: &[u8]) -> Code
-    ensures { result ≡ resolution_in line.now }
-{
-    let mark = mark_of(line);
-    bits_of(word(line, 5), mark.value)
-}
-
-fn field_by(kind: Code, width: Code, sign: Code, mark: Code, resolution: Code) -> Field
-    ensures { result ≡ field_by_lem kind width sign mark resolution }
-{
-    Field {
-        good: kind.good & width.good & sign.good & mark.good & resolution.good,
-        kind: kind.value,
-        width: width.value,
-        sign: sign.value,
-        mark: mark.value,
-        resolution: resolution.value,
-    }
-}
-
 // The words from place 1 to 5.
-pub(crate) fn field_of(line: &[u8]) -> Field
+#[tactic(auto, unfolding(crate::specs::Fields::field_in, crate::specs::Fields::resolution_in))]
+pub(crate) fn field_of(line: &[u8]) -> Option<Field>
     ensures { result ≡ field_in line.now }
 {
-    field_by(
-        kind_of(line),
-        width_of(line),
-        sign_of(line),
-        mark_of(line),
-        resolution_of(line),
-    )
+    let mark = mark_of(line)?;
+    Some(Field {
+        kind: kind_of(line)?,
+        width: width_of(line)?,
+        sign: sign_of(line)?,
+        mark,
+        resolution: bits_of(word(line, 5), mark)?,
+    })
 }

@@ -32,10 +32,9 @@ fn put_call(f: Field, line: &[u8], page: &mut Page<'_>)
 fn put_reply(line: &[u8], page: &mut Page<'_>)
     ensures { PutsOn page.old (answer_text line.now) page.new }
 {
-    let f = field_of(line);
-    if !f.good {
+    let Some(f) = field_of(line) else {
         return page.put_malformed();
-    }
+    };
     put_call(f, line, page);
 }
 

@@ -1,65 +1,49 @@
 -- A line by its fields, as they were read: whether it is a case, and its answer. Assumes nothing.
-use mathlib.Core.Path.{◌≡◌, sym, ◌∙◌}
-use mathlib.Core.Bool.{Bool, true, false, ◌&&◌, and-eq-true_iff}
+use mathlib.Core.Path.{◌≡◌}
+use mathlib.Core.Bool.{true, false, and-false}
 use mathlib.Core.List.{List, [], ◌∷◌, ◌++◌}
-use Prim.Native.Nat.{ℕ, ◌-◌, ◌≤◌}
-use borrow.Author.Tests.{leb-true}
-use lib.Dec.{eqb, leb}
-use lib.ListN.{length, take, replicate}
+use Prim.Native.Nat.{ℕ, ◌≤◌, ◌<◌}
+use borrow.Author.Tests.{eq-eqb, ne_eqb, le-leb, lt-leb}
+use lib.ListN.{replicate}
+use Rattle.std.specs.Prelude.{Some, None}
 use Rattle.text.specs.Refusals.{malformed_text}
 use Rattle.columns.specs.Parts.{space, parts_of, marks_in, field}
 use Rattle.columns.specs.Numbers.{decimal_in}
 use Rattle.columns.specs.Runs.{is_bytes, bytes_of, values_of, is_words}
-use Rattle.columns.specs.declared.Number.{Number}
-use Rattle.columns.specs.declared.Run.{Run}
-use Rattle.columns.proofs.Stored.{Stored}
 use Rattle.lines.specs.Machine.{newline}
 use Rattle.tables.specs.Table.{table_of}
 use Rattle.readcalls.specs.Lines.{untouched, decode_text}
-use Rattle.readcalls.specs.Answers.{padding_max, words_max, comma, payload_most, is_case_lem, case_text, answered}
-
-both : (a b : Bool) → (a && b) ≡ true → (a ≡ true) × (b ≡ true)
-both a b e = (and-eq-true_iff a b).0 e
+use Rattle.readcalls.specs.Answers.{padding_max, words_max, comma, payload_most, is_case_lem, answered}
 
 -- ROOM, PADDING, WORDS and PAYLOAD
-module _ (line : List ℕ) {room padding : Number} {table payload : Run} {words bytes : List ℕ} {spaces : ℕ}
-    (first : room ≡ decimal_in (field line 0)) (second : padding ≡ decimal_in (field line 1))
-    (third : Stored (is_words comma words_max (field line 2)) (values_of (parts_of comma (field line 2))) table words)
-    (fourth : Stored (is_bytes payload_most (field line 3)) (bytes_of (field line 3)) payload bytes) (marks : spaces ≡ marks_in space line) where
-  abbrev sized : Bool
-  sized = eqb spaces 3 && room.good && padding.good && leb padding.value padding_max
+module _ (line : List ℕ) where
+  pub no_room : decimal_in (field line 0) ≡ None → is_case_lem line ≡ false
+  no_room e = rw (e, and-false)
 
-  abbrev good : Bool
-  good = sized && table.good && payload.good
+  pub no_padding : decimal_in (field line 1) ≡ None → is_case_lem line ≡ false
+  no_padding e = rw (e, and-false)
 
-  is : good ≡ is_case_lem line
-  is = rw (first, second, third.good, fourth.good, marks)
+  pub padding-large : {n : ℕ} → decimal_in (field line 1) ≡ Some n → padding_max < n → is_case_lem line ≡ false
+  padding-large {n} e l = rw (e, lt-leb n padding_max l, and-false)
 
-  module _ (g : good ≡ true) where
-    bytes_good : is_bytes payload_most (field line 3) ≡ true
-    bytes_good = sym fourth.good ∙ (both (sized && table.good) payload.good g).1
+  pub no_words : is_words comma words_max (field line 2) ≡ false → is_case_lem line ≡ false
+  no_words e = rw (e, and-false)
 
-    words-good : is_words comma words_max (field line 2) ≡ true
-    words-good = sym third.good ∙ (both sized table.good (both (sized && table.good) payload.good g).0).1
+  pub no_bytes : is_bytes payload_most (field line 3) ≡ false → is_case_lem line ≡ false
+  no_bytes e = rw (e, and-false)
 
-    pub padding-within : padding.value ≤ padding_max
-    padding-within = leb-true _ _ (both (eqb spaces 3 && room.good && padding.good) (leb padding.value padding_max) (both sized table.good (both (sized && table.good) payload.good g).0).0).1
+  pub spaced-other : {n : ℕ} → n ≡ marks_in space line → (n ≡ 3 → ⊥) → is_case_lem line ≡ false
+  spaced-other {n} e h = rw (← e, ne_eqb n 3 h)
 
-    pub words-within : table.len ≤ length words
-    words-within = third.within words-good
-
-    pub bytes-within : payload.len ≤ length bytes
-    bytes-within = fourth.within bytes_good
-
-    pub by-case : {p n : ℕ} → p ≡ padding.value → n ≡ room.value
-        → decode_text (table_of (take (table.len - 0) words)) (take (payload.len - 0) bytes) (replicate p untouched) n ≡ answered line
-    unfolding answered
-    by-case {p} {n} e f =
-        let case : is_case_lem line ≡ true = sym is ∙ g in
-        let same : decode_text (table_of (take (table.len - 0) words)) (take (payload.len - 0) bytes) (replicate p untouched) n ≡ case_text line =
-        rw (third.first words-good, fourth.first bytes_good, e, f, first, second) in
-        rw case same
-
-  pub no-case : good ≡ false → malformed_text ++ newline ∷ [] ≡ answered line
+  pub no-case : is_case_lem line ≡ false → malformed_text ++ newline ∷ [] ≡ answered line
   unfolding answered
-  no-case g = let case : is_case_lem line ≡ false = sym is ∙ g in rw case
+  no-case e = rw e
+
+  -- each of its form, as they were read
+  pub by-case : {spaces room padding : ℕ} → spaces ≡ marks_in space line → spaces ≡ 3 → decimal_in (field line 0) ≡ Some room → decimal_in (field line 1) ≡ Some padding → padding ≤ padding_max
+      → is_words comma words_max (field line 2) ≡ true → is_bytes payload_most (field line 3) ≡ true
+      → {words bytes : List ℕ} {p n : ℕ} → words ≡ values_of (parts_of comma (field line 2)) → bytes ≡ bytes_of (field line 3) → p ≡ padding → n ≡ room
+      → decode_text (table_of words) bytes (replicate p untouched) n ≡ answered line
+  unfolding answered
+  by-case {spaces} {room} {padding} marks three first second small third fourth e f g h =
+      rw (← marks, eq-eqb spaces 3 three, first, second, le-leb padding padding_max small, third, fourth, e, f, g, h)

@@ -7,7 +7,7 @@ use native.Mathlib.Omega.{arith}
 use borrow.Author.Tests.{leb-true}
 use lib.Dec.{eqb, leb}
 use lib.ListN.{length, drop, replicate, length-append, length-drop, length-replicate}
-use Rattle.std.specs.Prelude.{Result, Ok, Err, Option, Some, None}
+use Rattle.std.specs.Prelude.{Result, Ok, Err, Option, Some, None, is_some, unwrap_or}
 use Rattle.bits.specs.Bits.{pick}
 use Rattle.bits.specs.declared.BitPos.{BitPos}
 use Rattle.fields.specs.declared.DecodeRefusal.{DecodeRefusal}
@@ -153,8 +153,8 @@ answer-size line = go (is_case_lem line) refl
   where
     go : (b : Bool) → is_case_lem line ≡ b → length (pick b (case_text line) (malformed_text ++ mark ∷ [])) ≤ answer_max
     go true e =
-        let n = (decimal_in (field line 1)).value in
-        let small = padding-small (eqb (marks_in space line) 3) (decimal_in (field line 0)).good (decimal_in (field line 1)).good (is_words comma words_max (field line 2)) (is_bytes payload_most (field line 3)) n e in
+        let n = unwrap_or (decimal_in (field line 1)) 0 in
+        let small = padding-small (eqb (marks_in space line) 3) (is_some (decimal_in (field line 0))) (is_some (decimal_in (field line 1))) (is_words comma words_max (field line 2)) (is_bytes payload_most (field line 3)) n e in
         let size = length-replicate n untouched in
-        decode-size (table_of (values_of (parts_of comma (field line 2)))) (bytes_of (field line 3)) (replicate n untouched) (decimal_in (field line 0)).value (omega (arith, size, small))
+        decode-size (table_of (values_of (parts_of comma (field line 2)))) (bytes_of (field line 3)) (replicate n untouched) (unwrap_or (decimal_in (field line 0)) 0) (omega (arith, size, small))
     go false e = omega arith

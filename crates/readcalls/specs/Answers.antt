@@ -1,5 +1,5 @@
 -- What a line is answered: src/main.rt, "ROOM PADDING WORDS PAYLOAD".
-use Rattle.std.specs.Prelude.{ℕ, List, [], ◌∷◌, ◌++◌, Bool, ◌&&◌, eqb, leb, replicate}
+use Rattle.std.specs.Prelude.{ℕ, List, [], ◌∷◌, ◌++◌, Bool, ◌&&◌, eqb, leb, replicate, is_some, unwrap_or}
 use Rattle.bits.specs.Bits.{pick}
 use Rattle.text.specs.Refusals.{malformed_text}
 use Rattle.columns.specs.Parts.{space, parts_of, marks_in, field}
@@ -29,17 +29,17 @@ payload_most = 300
 abbrev pub is_case_lem : List ℕ → Bool
 is_case_lem line =
     eqb (marks_in space line) 3
-    && (decimal_in (field line 0)).good
-    && (decimal_in (field line 1)).good
-    && leb (decimal_in (field line 1)).value padding_max
+    && is_some (decimal_in (field line 0))
+    && is_some (decimal_in (field line 1))
+    && leb (unwrap_or (decimal_in (field line 1)) 0) padding_max
     && is_words comma words_max (field line 2)
     && is_bytes payload_most (field line 3)
 
 -- the decode of PAYLOAD by the table of WORDS, with a padding run of PADDING bytes and room for ROOM readings
 abbrev pub case_text : List ℕ → List ℕ
 case_text line =
-    decode_text (table_of (values_of (parts_of comma (field line 2)))) (bytes_of (field line 3)) (replicate (decimal_in (field line 1)).value untouched)
-    (decimal_in (field line 0)).value
+    decode_text (table_of (values_of (parts_of comma (field line 2)))) (bytes_of (field line 3)) (replicate (unwrap_or (decimal_in (field line 1)) 0) untouched)
+    (unwrap_or (decimal_in (field line 0)) 0)
 
 -- "a line that is no case [..] is answered F 14 alone"
 unfoldable pub answered : List ℕ → List ℕ

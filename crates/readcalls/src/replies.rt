@@ -1,5 +1,5 @@
 // The cases, line by line: the decode turn by turn, then in one call, and what both came to.
-ghost use Rattle.std.specs.Prelude.{◌≤◌, ◌≡◌, ◌&&◌, [], ◌++◌, eqb, leb, get_or, replicate};
+ghost use Rattle.std.specs.Prelude.{◌≤◌, ◌≡◌, [], ◌++◌, get_or, replicate};
 ghost use Rattle.text.specs.Sheet.{PutsOn};
 ghost use Rattle.columns.specs.Parts.{space, parts_of};
 ghost use Rattle.columns.specs.Numbers.{decimal_in};
@@ -10,7 +10,7 @@ ghost use Rattle.readcalls.specs.Answers.{padding_max, answered};
 use crate::alike::{is_same, put_difference};
 use crate::answers::{UNTOUCHED, put_decoded, put_run};
 use crate::turning::put_turns;
-use columns::{Number, word};
+use columns::word;
 use lines::Answers;
 use reading::Decoded;
 use text::Page;
@@ -69,17 +69,10 @@ fn place(n: u64) -> usize
 }
 
 // The field at place i, in decimal.
-fn number(line: &[u8], i: usize) -> Number
+fn number(line: &[u8], i: usize) -> Option<u64>
     ensures { result ≡ decimal_in (get_or (parts_of space line.now) i []) }
 {
     columns::decimal(word(line, i))
-}
-
-// Whether a line is a case, by its spaces and by what its fields were read as.
-fn is_case(spaces: usize, room: bool, padding: Number, table: bool, payload: bool) -> bool
-    ensures { result ≡ (eqb spaces 3 && room && padding.good && leb padding.value padding_max && table && payload) }
-{
-    (spaces == 3) & room & padding.good & (padding.value <= PADDING_MAX) & table & payload
 }
 
 // What answers the lines.
@@ -92,21 +85,22 @@ impl Answers for Cases {
     fn put_answer(&mut self, line: &[u8], page: &mut Page<'_>) {
         let mut words = [0u64; 200];
         let mut payload = [0u8; 300];
-        let room = number(line, 0);
-        let padding = number(line, 1);
-        let table = columns::words(word(line, 2), b',', &mut words);
-        let received = columns::bytes(word(line, 3), &mut payload);
-        let spaces = columns::marks(line, b' ');
-        if !is_case(spaces, room.good, padding, table.good, received.good) {
+        let (Some(room), Some(padding), Some(n), Some(m)) = (
+            number(line, 0),
+            number(line, 1),
+            columns::words(word(line, 2), b',', &mut words),
+            columns::bytes(word(line, 3), &mut payload),
+        ) else {
+            return page.put_text(b"F 14\n");
+        };
+        if columns::marks(line, b' ') != 3 || PADDING_MAX < padding {
             return page.put_text(b"F 14\n");
         }
-        let n = table.len;
-        let m = received.len;
         put_replay(
             &words[0..n],
             &payload[0..m],
-            place(padding.value),
-            place(room.value),
+            place(padding),
+            place(room),
             page,
         );
     }

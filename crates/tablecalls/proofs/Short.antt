@@ -8,6 +8,7 @@ use native.Mathlib.Omega.{arith}
 use borrow.Author.Tests.{leb-true, leb-false}
 use lib.Dec.{eqb, leb, ltb}
 use lib.ListN.{length}
+use Rattle.std.specs.Prelude.{is_some}
 use Rattle.bits.specs.Bits.{pick}
 use Rattle.hexadecimal.proofs.Inverse.{both}
 use Rattle.text.specs.Refusals.{malformed_text}
@@ -41,11 +42,11 @@ parts-total mark (b ∷ bs) = go (eqb b mark) (parts-total mark bs)
     go false e = longer-total b (parts_of mark bs) (length bs) e
 
 -- a number has at most 16 digits
-if-good : (t : Bool) (n : ℕ) → (number_if t n).good ≡ true → t ≡ true
+if-good : (t : Bool) (n : ℕ) → is_some (number_if t n) ≡ true → t ≡ true
 if-good true n e = refl
 if-good false n e = e
 
-good-size : (s : List ℕ) → (hex_in s).good ≡ true → length s ≤ hex_digits
+good-size : (s : List ℕ) → is_some (hex_in s) ≡ true → length s ≤ hex_digits
 unfolding number_in
 good-size s e =
     let some = ltb 0 (length s) in
@@ -58,7 +59,7 @@ good-size s e =
 numbers-size : (ps : List (List ℕ)) → all_numbers ps ≡ true → total ps ≤ length ps * suc hex_digits
 unfolding total all_numbers
 numbers-size [] e = omega arith
-numbers-size (p ∷ ps) e = let h = both (hex_in p).good (all_numbers ps) e in omega (arith, good-size p h.0, numbers-size ps h.1)
+numbers-size (p ∷ ps) e = let h = both (is_some (hex_in p)) (all_numbers ps) e in omega (arith, good-size p h.0, numbers-size ps h.1)
 
 -- a table in words fits the buffer
 table-size : (line : List ℕ) → is_table line ≡ true → length line ≤ line_max

@@ -31,11 +31,9 @@ impl Answers for Tables {
 
     fn put_answer(&mut self, line: &[u8], page: &mut Page<'_>) {
         let mut words = [0u64; 200];
-        let run = columns::words(line, b' ', &mut words);
-        let n = run.len;
-        if !run.good {
+        let Some(n) = columns::words(line, b' ', &mut words) else {
             return page.put_text(b"F 14\n");
-        }
+        };
         put_checked(page, tables::check(&words[0..n]));
         page.put(b'\n');
     }

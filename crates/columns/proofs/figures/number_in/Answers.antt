@@ -9,15 +9,15 @@ use Rattle.columns.proofs.Spelling.{largest, below_end, below_more, below-not, s
 use Rattle.columns.proofs.figures.number_in.Goals as goal
 
 pub returns-then-s-eq0 : goal.returns-then-s-eq0
-returns-then-s-eq0 c = c.no_number.ensures ∙ empty _ _ _ c.if-s-eq0.true
+returns-then-s-eq0 c = empty _ _ _ c.if-s-eq0.true
 
 pub returns-then-most-s : goal.returns-then-most-s
-returns-then-most-s c = c.no_number-then-most-s.ensures ∙ too_long _ _ _ c.if-most-s.true
+returns-then-most-s c = too_long _ _ _ c.if-most-s.true
 
 pub returns-then-base-d : goal.returns-then-base-d
 returns-then-base-d c =
     let far : c.args.base ≤ value_of (get_or c.args.s.now c.loop-i.i 0) = omega (arith, c.if-base-d.true, c.digit-d.ensures) in
-    c.no_number-then-base-d.ensures ∙ no-digits c.args.base c.args.most c.args.s.now (c.loop-i.invariant.1.1.0 ∙ below-not c.args.base c.args.s.now c.loop-i.i c.loop-i-test.true far)
+    no-digits c.args.base c.args.most c.args.s.now (c.loop-i.invariant.1.1.0 ∙ below-not c.args.base c.args.s.now c.loop-i.i c.loop-i-test.true far)
 
 pub returns-then-d-base : goal.returns-then-d-base
 returns-then-d-base c =
@@ -26,7 +26,7 @@ returns-then-d-base c =
     let far = wraps c.args.base c.loop-i.v c.digit-d.result largest c.requires (omega arith) c.if-d-base.true in
     let on = c.loop-i.invariant.1.1.1 ∙ spelled-more c.args.base c.args.s.now c.loop-i.i c.loop-i.v c.loop-i-test.true in
     let g = grows c.args.base (c.loop-i.v * c.args.base + b) (drop (c.loop-i.i + 1) c.args.s.now) c.requires in
-    c.no_number-then-d-base.ensures ∙ too_large c.args.base c.args.most c.args.s.now (omega (arith, far, on, g, e))
+    too_large c.args.base c.args.most c.args.s.now (omega (arith, far, on, g, e))
 
 pub loop-i-preserved : goal.loop-i-preserved
 loop-i-preserved c =

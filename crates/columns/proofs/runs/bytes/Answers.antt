@@ -1,24 +1,30 @@
-use mathlib.Core.Path.{◌≡◌, refl, sym, ap, ◌∙◌}
-use mathlib.Core.Bool.{Bool, true, false}
+use mathlib.Core.Path.{◌≡◌, sym, ap, ◌∙◌}
+use mathlib.Core.Bool.{Bool}
 use mathlib.Core.List.{List, []}
 use Prim.Native.Nat.{ℕ}
 use native.Mathlib.Omega.{arith}
-use lib.Dec.{eqb}
-use lib.ListN.{get_or}
-use Rattle.columns.specs.declared.Run.{Run}
-use Rattle.columns.specs.Runs.{filled, filled_if, dash}
+use borrow.Author.Tests.{eq-eqb, ne_eqb}
+use lib.ListN.{length, get_or}
+use Rattle.std.specs.Prelude.{Some, None}
+use Rattle.columns.specs.Runs.{filled, filled_if, dash, bytes_in_lem}
 use Rattle.columns.proofs.Filling.{bytes-none, bytes_one, bytes-more}
 use Rattle.columns.proofs.runs.bytes.Goals as goal
 
-none : (t : Bool) (old : List ℕ) → filled (record { good = t; len = 0 }) old ≡ filled_if t [] old
-none true old = refl
-none false old = refl
+module _ (s old : List ℕ) (one : length s ≡ 1) where
+  dashed : get_or s 0 0 ≡ dash → filled (Some 0) old ≡ bytes_in_lem s old
+  dashed e = sym (bytes_one s old one ∙ ap (λ (t : Bool). filled_if t [] old) (eq-eqb (get_or s 0 0) dash e))
 
-pub returns-then-s-eq0 : goal.returns-then-s-eq0
-returns-then-s-eq0 c = ap (λ (r : Run). filled r c.args.buffer.now) c.no_run.ensures ∙ bytes-none c.args.s.now c.args.buffer.now c.if-s-eq0.true
+  other : (get_or s 0 0 ≡ dash → ⊥) → filled None old ≡ bytes_in_lem s old
+  other n = sym (bytes_one s old one ∙ ap (λ (t : Bool). filled_if t [] old) (ne_eqb (get_or s 0 0) dash n))
 
-pub returns-then-s-eq1 : goal.returns-then-s-eq1
-returns-then-s-eq1 c = none (eqb (get_or c.args.s.now 0 0) dash) c.args.buffer.now ∙ sym (bytes_one c.args.s.now c.args.buffer.now c.if-s-eq1.true)
+pub returns-in-empty : goal.returns-in-empty
+returns-in-empty c = bytes-none c.args.s.now c.args.buffer.now (omega arith)
 
-pub returns : goal.returns
-returns c = c.pairs.ensures ∙ bytes-more c.args.s.now c.args.buffer.now (omega (arith, c.if-s-eq1.false, c.if-s-eq0.false))
+pub returns-in-45 : goal.returns-in-45
+returns-in-45 c = dashed c.args.s.now c.args.buffer.now (omega arith) (omega arith)
+
+pub returns-in-len1 : goal.returns-in-len1
+returns-in-len1 c = other c.args.s.now c.args.buffer.now (omega arith) (λ z. omega arith)
+
+pub returns-in_default : goal.returns-in_default
+returns-in_default c = c.pairs.ensures ∙ bytes-more c.args.s.now c.args.buffer.now (omega arith)

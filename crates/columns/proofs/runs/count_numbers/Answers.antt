@@ -4,9 +4,8 @@ use mathlib.Core.Bool.{Bool}
 use mathlib.Core.List.{List}
 use Prim.Native.Nat.{ℕ, ◌≤◌, ◌<◌}
 use native.Mathlib.Omega.{arith}
-use borrow.Author.Tests.{not-true, not-false}
 use lib.ListN.{length}
-use Rattle.columns.specs.declared.Number.{Number}
+use Rattle.std.specs.Prelude.{Option, is_some}
 use Rattle.columns.specs.Parts.{parts_of}
 use Rattle.columns.specs.Numbers.{hex_in}
 use Rattle.columns.specs.Runs.{run_if}
@@ -14,22 +13,22 @@ use Rattle.columns.proofs.Filling.{count-other, count-last, count-more}
 use Rattle.columns.proofs.runs.count_numbers.Goals as goal
 
 -- whether the part at hand is a number
-good : {w v : List ℕ} {x : Number} → x ≡ hex_in w → w ≡ v → (hex_in v).good ≡ x.good
-good h k = sym (ap (λ (y : Number). y.good) h ∙ ap (λ (y : List ℕ). (hex_in y).good) k)
+good : {w v : List ℕ} {x y : Option ℕ} → x ≡ hex_in w → w ≡ v → x ≡ y → is_some (hex_in v) ≡ is_some y
+good h k e = ap is_some (sym (ap hex_in k) ∙ sym h ∙ e)
 
-pub returns-then-not-word : goal.returns-then-not-word
-returns-then-not-word c =
-    let no = count-other c.args.mark c.args.s.now c.loop-mark.from c.part_end-end.result c.loop-mark.invariant.0 c.part_end-end.ensures.value c.part_end-end.ensures.upper_bound (good c.hex-word.ensures c.part.ensures ∙ not-true _ c.if-not-word.true) in
-    c.no_run.ensures ∙ ap (λ (t : Bool). run_if t (length (parts_of c.args.mark c.args.s.now))) (sym (c.loop-mark.invariant.1.1.0 ∙ no))
+pub returns-in_err-hex : goal.returns-in_err-hex
+returns-in_err-hex c =
+    let no = count-other c.args.mark c.args.s.now c.loop-n.from c.part_end-end.result c.loop-n.invariant.0 c.part_end-end.ensures.value c.part_end-end.ensures.upper_bound (good c.hex.ensures c.part.ensures c.in_err-hex.was) in
+    c.from_residual.ensures ∙ ap (λ (t : Bool). run_if t (length (parts_of c.args.mark c.args.s.now))) (sym (c.loop-n.invariant.1.1.0 ∙ no))
 
 pub returns-then-end-s : goal.returns-then-end-s
 returns-then-end-s c =
-    let k = count-last c.args.mark c.args.s.now c.loop-mark.from c.part_end-end.result c.loop-mark.invariant.0 c.part_end-end.ensures.value c.if-end-s.true (good c.hex-word.ensures c.part.ensures ∙ not-false _ c.if-not-word.false) in
-    ap₂ run_if (sym (c.loop-mark.invariant.1.1.0 ∙ k.0)) (omega (arith, c.loop-mark.invariant.1.1.1, k.1))
+    let k = count-last c.args.mark c.args.s.now c.loop-n.from c.part_end-end.result c.loop-n.invariant.0 c.part_end-end.ensures.value c.if-end-s.true (good c.hex.ensures c.part.ensures c.in_ok-hex.was) in
+    ap₂ run_if (sym (c.loop-n.invariant.1.1.0 ∙ k.0)) (omega (arith, c.loop-n.invariant.1.1.1, k.1))
 
-pub loop-mark-preserved : goal.loop-mark-preserved
-loop-mark-preserved c =
+pub loop-n-preserved : goal.loop-n-preserved
+loop-n-preserved c =
     let far : c.part_end-end.result < length c.args.s.now = omega (arith, c.if-end-s.false, c.part_end-end.ensures.upper_bound) in
-    let k = count-more c.args.mark c.args.s.now c.loop-mark.from c.part_end-end.result c.loop-mark.invariant.0 c.part_end-end.ensures.value far (good c.hex-word.ensures c.part.ensures ∙ not-false _ c.if-not-word.false) in
-    let on : c.loop-mark.from ≤ c.part_end-end.result = omega (arith, c.part_end-end.ensures.value, c.loop-mark.invariant.0) in
-    (omega arith, (omega (arith, on, c.loop-mark.invariant.1.0), (c.loop-mark.invariant.1.1.0 ∙ k.0, omega (arith, c.loop-mark.invariant.1.1.1, k.1))))
+    let k = count-more c.args.mark c.args.s.now c.loop-n.from c.part_end-end.result c.loop-n.invariant.0 c.part_end-end.ensures.value far (good c.hex.ensures c.part.ensures c.in_ok-hex.was) in
+    let on : c.loop-n.from ≤ c.part_end-end.result = omega (arith, c.part_end-end.ensures.value, c.loop-n.invariant.0) in
+    (omega arith, (omega (arith, on, c.loop-n.invariant.1.0), (c.loop-n.invariant.1.1.0 ∙ k.0, omega (arith, c.loop-n.invariant.1.1.1, k.1))))

@@ -5,21 +5,20 @@ use native.Mathlib.Omega.{arith}
 use lib.ListN.{length}
 use Rattle.hexadecimal.specs.Digits.{all_digits_lem}
 use Rattle.hexadecimal.proofs.Inverse.{length_pairs}
-use Rattle.columns.specs.declared.Run.{Run}
 use Rattle.columns.specs.Runs.{run, filled}
 use Rattle.columns.proofs.Filling.{pairs-odd, pairs-full, pairs-other, pairs-good}
 use Rattle.columns.proofs.runs.pairs.Goals as goal
 
 pub returns-then-s-ne0 : goal.returns-then-s-ne0
-returns-then-s-ne0 c = ap (λ (r : Run). filled r c.args.buffer.now) c.no_run.ensures ∙ pairs-odd c.args.s.now c.args.buffer.now c.if-s-ne0.true
+returns-then-s-ne0 c = pairs-odd c.args.s.now c.args.buffer.now c.if-s-ne0.true
 
 pub returns-then-buffer-n : goal.returns-then-buffer-n
-returns-then-buffer-n c = ap (λ (r : Run). filled r c.args.buffer.now) c.no_run-then-buffer-n.ensures ∙ pairs-full c.args.s.now c.args.buffer.now c.if-buffer-n.true
+returns-then-buffer-n c = pairs-full c.args.s.now c.args.buffer.now c.if-buffer-n.true
 
 pub returns-then-not-all_digits : goal.returns-then-not-all_digits
 returns-then-not-all_digits c =
     let e : all_digits_lem c.args.s.now ≡ false = sym c.all_digits.ensures ∙ c.if-not-all_digits.true in
-    ap (λ (r : Run). filled r c.args.buffer.now) c.no_run-then-not-all_digits.ensures ∙ pairs-other c.args.s.now c.args.buffer.now e
+    pairs-other c.args.s.now c.args.buffer.now e
 
 pub store_pairs-requires : goal.store_pairs-requires
 store_pairs-requires c = (sym c.all_digits.ensures ∙ c.if-not-all_digits.false, omega (arith, length_pairs c.args.s.now, c.if-buffer-n.false))
