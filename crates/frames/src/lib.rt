@@ -33,19 +33,19 @@ pub struct Fed {
     pub taken: usize,
 }
 
-// What a line is: a frame of a built-in message, with the bytes of its payload counted; or 14 or 15, as
-// specs/Refusals.antt numbers them.
+// A frame of a built-in message, with the bytes of its payload counted.
 #[derive(Clone, Copy)]
-pub enum Frame {
-    Got {
-        message: Message,
-        pgn: u32,
-        received: usize,
-    },
+pub struct Frame {
+    pub message: Message,
+    pub pgn: u32,
+    pub received: usize,
+}
+
+// What a line is that is no frame: 15 or 14, as specs/Refusals.antt numbers them.
+#[derive(Clone, Copy)]
+pub enum FrameRefusal {
     // 15
-    Unknown {
-        pgn: u32,
-    },
+    Unknown { pgn: u32 },
     // 14
     Malformed,
 }

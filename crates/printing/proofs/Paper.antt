@@ -34,7 +34,8 @@ use Rattle.frames.specs.Frames.{known_frame, frame_of, frame_by}
 use Rattle.frames.specs.declared.Line.{Line}
 use Rattle.frames.specs.declared.Frame.{Frame}
 use Rattle.frames.proofs.Exact.{frame, payload, whole-front, line-pieces, buffer-pieces}
-use Rattle.frames.specs.declared.Frame.TheVariants.{Unknown, Malformed}
+use Rattle.frames.specs.declared.FrameRefusal.{FrameRefusal}
+use Rattle.frames.specs.declared.FrameRefusal.TheVariants.{Unknown, Malformed}
 use Rattle.frames.specs.Refusals.{number_of, carried_of}
 use Rattle.frame_lines.specs.Lines.{newline, pgn_text, frame_line, refusal_line, malformed_line, unknown_line}
 use Rattle.frame_lines.specs.Decode.{decode_text, walk_text}
@@ -83,7 +84,7 @@ parsed-by (parsed pgn p) buffer h = known_by (message_of_lem pgn) pgn p buffer (
 -- the answer by what is kept of a line is the line's
 pub answers : (line buffer : List ℕ) → length line < 2 ^ 64 → payload_max ≤ length buffer → answer_by (frame_by (line_after empty_line_lem line)) (buffer_after empty_line_lem buffer line) ≡ answered line
 answers line buffer small room =
-    ap (λ (f : Frame). answer_by f (buffer_after empty_line_lem buffer line)) (frame line small)
+    ap (λ (f : Result Frame FrameRefusal). answer_by f (buffer_after empty_line_lem buffer line)) (frame line small)
     ∙ parsed-by (line_of line) (buffer_after empty_line_lem buffer line) (λ pgn p e l. ap (take (length p)) (payload line buffer pgn p e small) ∙ whole-front p buffer (omega arith))
 
 -- 14 and 15 are printed by the numbers that `frames` gives them, and 15 with the PGN that it carries "in 6 digits"

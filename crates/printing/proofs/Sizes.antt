@@ -16,7 +16,9 @@ use Rattle.fields.specs.declared.DecodeRefusal.TheVariants.{WrongLength}
 use Rattle.fields.specs.Payload.{payload_of}
 use Rattle.reading.specs.Demand3.{room_enough_lem}
 use Rattle.frames.specs.declared.Frame.{Frame}
-use Rattle.frames.specs.declared.Frame.TheVariants.{Got, Unknown, Malformed}
+use Rattle.frames.specs.declared.FrameRefusal.{FrameRefusal}
+use Rattle.frames.specs.declared.FrameRefusal.TheVariants.{Unknown, Malformed}
+use Rattle.std.specs.Prelude.{Result, Ok, Err}
 use Rattle.frame_lines.specs.Lines.{frame_line, refusal_line}
 use Rattle.frame_lines.specs.Decode.{walk_text}
 use Rattle.frame_lines.proofs.Sizes.{walk-size, refusal-size, frame-size, unknown-size}
@@ -31,9 +33,9 @@ payload-size : (m : Message) (n : ℕ) (buffer : List ℕ) (t : Bool)
 payload-size m n buffer true = omega (arith, refusal-size (WrongLength (bytes n)))
 payload-size m n buffer false = walk-size (table_of (words_of m)) (payload_of (take n buffer)) room_enough_lem
 
-pub answer-size : (f : Frame) (buffer : List ℕ) → length (answer_by f buffer) ≤ page
-answer-size (Got m pgn n) buffer =
-    let x = payload-size m n buffer (ltb payload_max n) in
-    omega (arith, plus (frame_line pgn n) (payload_text m n buffer) 30 (room_enough_lem * 130 + 130) (frame-size pgn n).1 x)
-answer-size (Unknown pgn) buffer = omega (arith, (unknown-size pgn).1)
-answer-size Malformed buffer = omega arith
+pub answer-size : (f : Result Frame FrameRefusal) (buffer : List ℕ) → length (answer_by f buffer) ≤ page
+answer-size (Ok f) buffer =
+    let x = payload-size f.message f.received buffer (ltb payload_max f.received) in
+    omega (arith, plus (frame_line f.pgn f.received) (payload_text f.message f.received buffer) 30 (room_enough_lem * 130 + 130) (frame-size f.pgn f.received).1 x)
+answer-size (Err (Unknown pgn)) buffer = omega (arith, (unknown-size pgn).1)
+answer-size (Err Malformed) buffer = omega arith

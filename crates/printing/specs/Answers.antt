@@ -1,6 +1,6 @@
 -- The program by what it keeps of a line: what is known of it, and the buffer that holds its payload. That this prints what specs/Text.antt says is
 -- proofs/Paper.antt.
-use Rattle.std.specs.Prelude.{ℕ, List, ◌++◌, ltb, take}
+use Rattle.std.specs.Prelude.{ℕ, List, ◌++◌, ltb, take, Result, Ok, Err}
 use Rattle.bits.specs.Bits.{pick}
 use Rattle.bits.specs.Calls.{bytes}
 use Rattle.hexadecimal.specs.Digits.{value_of}
@@ -14,7 +14,8 @@ use Rattle.fields.specs.Payload.{payload_of}
 use Rattle.reading.specs.Demand3.{room_enough_lem}
 use Rattle.frames.specs.declared.Line.{Line}
 use Rattle.frames.specs.declared.Frame.{Frame}
-use Rattle.frames.specs.declared.Frame.TheVariants.{Got, Unknown, Malformed}
+use Rattle.frames.specs.declared.FrameRefusal.{FrameRefusal}
+use Rattle.frames.specs.declared.FrameRefusal.TheVariants.{Unknown, Malformed}
 use Rattle.frames.specs.Digest.{empty_line_lem, fed_by, kept_by}
 use Rattle.frames.specs.Frames.{frame_by}
 use Rattle.frame_lines.specs.Lines.{frame_line, unknown_line, malformed_line, refusal_line}
@@ -25,10 +26,10 @@ abbrev pub payload_text : Message → ℕ → List ℕ → List ℕ
 payload_text m received buffer =
     pick (ltb payload_max received) (refusal_line (WrongLength (bytes received))) (walk_text (table_of (words_of m)) (payload_of (take received buffer)) room_enough_lem)
 
-abbrev pub answer_by : Frame → List ℕ → List ℕ
-answer_by (Got m pgn received) buffer = frame_line pgn received ++ payload_text m received buffer
-answer_by (Unknown pgn) buffer = unknown_line pgn
-answer_by Malformed buffer = malformed_line
+abbrev pub answer_by : Result Frame FrameRefusal → List ℕ → List ℕ
+answer_by (Ok f) buffer = frame_line f.pgn f.received ++ payload_text f.message f.received buffer
+answer_by (Err (Unknown pgn)) buffer = unknown_line pgn
+answer_by (Err Malformed) buffer = malformed_line
 
 -- what is kept of a line
 pub record Kept : Type 0 where

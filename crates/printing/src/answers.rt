@@ -6,7 +6,7 @@ ghost use Rattle.printing.specs.Answers.{payload_text, answer_by};
 use bits::{ByteCount, Part};
 use fields::DecodeRefusal;
 use frame_lines::{put_decode, put_frame, put_refusal, put_unknown};
-use frames::{Frame, Line, frame_of};
+use frames::{Frame, FrameRefusal, Line, frame_of};
 use messages::Message;
 use text::Page;
 
@@ -33,16 +33,16 @@ fn put_lines(line: Line, buffer: &[u8], page: &mut Page<'_>)
     ensures { PutsOn page.old (answer_by (frame_by line) buffer.now) page.new }
 {
     match frame_of(line) {
-        Frame::Got {
+        Ok(Frame {
             message,
             pgn,
             received,
-        } => {
+        }) => {
             put_frame(page, pgn, received);
             put_payload(message, buffer, received, page);
         }
-        Frame::Unknown { pgn } => put_unknown(page, pgn),
-        Frame::Malformed => page.put_text(b"F 14\n"),
+        Err(FrameRefusal::Unknown { pgn }) => put_unknown(page, pgn),
+        Err(FrameRefusal::Malformed) => page.put_text(b"F 14\n"),
     }
 }
 
