@@ -1,6 +1,5 @@
 // Numbers in digits.
 ghost use Rattle.std.specs.Prelude.{◌<◌, ◌≡◌};
-ghost use Rattle.hexadecimal.specs.Digits.{value_of};
 ghost use Rattle.columns.specs.Numbers.{number_in, decimal_in, hex_in};
 
 use hexadecimal::value_of;
@@ -9,16 +8,6 @@ use hexadecimal::value_of;
 const DECIMAL_DIGITS: usize = 20;
 
 const HEX_DIGITS: usize = 16;
-
-// The largest number of 64 bits.
-const LARGEST: u64 = 0xffff_ffff_ffff_ffff;
-
-// The value of a digit, or 16 of a byte that is none.
-fn digit(b: u8) -> u64
-    ensures { result ≡ value_of b }
-{
-    value_of(b) as u64
-}
 
 // A number in a base, of 1 to `most` digits.
 fn number_in(s: &[u8], base: u64, most: usize) -> Option<u64>
@@ -32,18 +21,16 @@ fn number_in(s: &[u8], base: u64, most: usize) -> Option<u64>
         return None;
     }
     let mut v: u64 = 0;
-    let mut i = 0;
-    while i < s.len() {
-        let d = digit(s[i]);
+    for &b in s {
+        let d = u64::from(value_of(b));
         if base <= d {
             return None;
         }
         // One digit more would be past 64 bits.
-        if (LARGEST - d) / base < v {
+        if (u64::MAX - d) / base < v {
             return None;
         }
         v = v * base + d;
-        i += 1;
     }
     Some(v)
 }

@@ -21,14 +21,12 @@ pub fn part_end(s: &[u8], from: usize, mark: u8) -> usize
     ensures value { result ≡ part_end_lem mark from s.now }
     ensures upper_bound { result ≤ length s.now }
 {
-    let mut i = from.min(s.len());
-    while i < s.len() {
+    for i in from.min(s.len())..s.len() {
         if s[i] == mark {
             return i;
         }
-        i += 1;
     }
-    i
+    s.len()
 }
 
 // The same of the field that starts at `from`: the mark is a space.
@@ -44,14 +42,12 @@ pub fn word(s: &[u8], i: usize) -> &[u8]
     ensures { result.now ≡ field s.now i }
 {
     let mut from = 0;
-    let mut k = 0;
-    while k < i {
+    for _k in 0..i {
         let end = field_end(s, from);
         if end == s.len() {
             return &s[end..];
         }
         from = end + 1;
-        k += 1;
     }
     let end = field_end(s, from);
     part(s, from, end)
@@ -62,12 +58,10 @@ pub fn marks(s: &[u8], mark: u8) -> usize
     ensures { result ≡ marks_in mark s.now }
 {
     let mut n: usize = 0;
-    let mut i = 0;
-    while i < s.len() {
-        if s[i] == mark {
+    for &b in s {
+        if b == mark {
             n += 1;
         }
-        i += 1;
     }
     n
 }

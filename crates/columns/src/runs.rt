@@ -59,12 +59,10 @@ pub fn words(s: &[u8], mark: u8, words: &mut [u64]) -> Option<usize>
 fn all_digits(s: &[u8]) -> bool
     ensures { result ≡ all_digits_lem s.now }
 {
-    let mut i = 0;
-    while i < s.len() {
-        if 15 < value_of(s[i]) {
+    for &b in s {
+        if 15 < value_of(b) {
             return false;
         }
-        i += 1;
     }
     true
 }
@@ -74,12 +72,10 @@ fn store_pairs(s: &[u8], buffer: &mut [u8])
     requires { (all_digits_lem s.now ≡ true) × (length (pairs_of s.now) ≤ length buffer.old) }
     ensures { buffer.new ≡ over (pairs_of s.now) buffer.old }
 {
-    let mut k = 0;
-    while k < s.len() / 2 {
+    for k in 0..s.len() / 2 {
         let high = value_of(s[2 * k]);
         let low = value_of(s[2 * k + 1]);
         buffer[k] = (high * 16 + low) as u8;
-        k += 1;
     }
 }
 

@@ -1,12 +1,9 @@
 -- The invariant: n marks are passed.
 use mathlib.Core.Path.{◌≡◌}
-use Prim.Native.Nat.{◌+◌, ◌-◌, ◌≤◌}
-use lib.ListN.{length, drop}
+use Prim.Native.Nat.{◌+◌, ◌≤◌}
+use lib.ListN.{drop}
 use Rattle.columns.specs.Parts.{marks_in}
 use Rattle.columns.proofs.parts.marks.Given as goal
 
-abbrev pub invariant-loop-i : goal.invariant-loop-i
-invariant-loop-i l = (l.i ≤ length l.s) × ((l.n ≤ l.i) × (marks_in l.mark l.s ≡ l.n + marks_in l.mark (drop l.i l.s)))
-
-abbrev pub decreases-loop-i : goal.decreases-loop-i
-decreases-loop-i l = length l.s - l.i
+abbrev pub invariant-loop-b : goal.invariant-loop-b
+invariant-loop-b l = (l.n ≤ l.b-index) × (marks_in l.mark l.s ≡ l.n + marks_in l.mark (drop l.b-index l.s))

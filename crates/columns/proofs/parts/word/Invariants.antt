@@ -7,7 +7,4 @@ use Rattle.columns.specs.Parts.{space, parts_of}
 use Rattle.columns.proofs.parts.word.Given as goal
 
 abbrev pub invariant-loop-k : goal.invariant-loop-k
-invariant-loop-k l = (l.k ≤ l.i) × ((l.from ≤ length l.s) × (get_or (parts_of space l.s) l.i [] ≡ get_or (parts_of space (drop l.from l.s)) (l.i - l.k) []))
-
-abbrev pub decreases-loop-k : goal.decreases-loop-k
-decreases-loop-k l = l.i - l.k
+invariant-loop-k l = (l.from ≤ length l.s) × (get_or (parts_of space l.s) l.i [] ≡ get_or (parts_of space (drop l.from l.s)) (l.i - l._k) [])

@@ -36,18 +36,18 @@ found {s} {old} {buffer} {k} {high} {low} e f a r t b =
 
 pub overflow_cast-buffer : goal.overflow_cast-buffer
 overflow_cast-buffer c =
-    let h = found c.value_of-high.ensures c.value_of-low.ensures c.requires.0 c.requires.1 c.loop-k-test.true c.loop-k.invariant.1 in omega (arith, h.top, h.bottom)
+    let h = found c.value_of-high.ensures c.value_of-low.ensures c.requires.0 c.requires.1 c.loop-k-test.true c.loop-k.invariant in omega (arith, h.top, h.bottom)
 
 pub bounds-buffer-k : goal.bounds-buffer-k
 bounds-buffer-k c =
-    let h = found c.value_of-high.ensures c.value_of-low.ensures c.requires.0 c.requires.1 c.loop-k-test.true c.loop-k.invariant.1 in omega (arith, h.room, h.size)
+    let h = found c.value_of-high.ensures c.value_of-low.ensures c.requires.0 c.requires.1 c.loop-k-test.true c.loop-k.invariant in omega (arith, h.room, h.size)
 
 pub loop-k-preserved : goal.loop-k-preserved
 loop-k-preserved c =
-    let h = found c.value_of-high.ensures c.value_of-low.ensures c.requires.0 c.requires.1 c.loop-k-test.true c.loop-k.invariant.1 in
-    (omega arith, ap₂ (λ (ws : List ℕ) (x : ℕ). set ws c.loop-k.k x) c.loop-k.invariant.1 h.byte ∙ front-more c.loop-k.k (pairs_of c.args.s.now) c.args.buffer.now h.among h.room)
+    let h = found c.value_of-high.ensures c.value_of-low.ensures c.requires.0 c.requires.1 c.loop-k-test.true c.loop-k.invariant in
+    ap₂ (λ (ws : List ℕ) (x : ℕ). set ws c.loop-k.k x) c.loop-k.invariant h.byte ∙ front-more c.loop-k.k (pairs_of c.args.s.now) c.args.buffer.now h.among h.room
 
 pub returns : goal.returns
 returns c =
     let n = length_pairs c.args.s.now in
-    c.loop-k.invariant.1 ∙ front-all c.loop-k.k (pairs_of c.args.s.now) c.args.buffer.now (omega (arith, n))
+    c.loop-k.invariant ∙ front-all c.loop-k.k (pairs_of c.args.s.now) c.args.buffer.now (omega (arith, n))

@@ -1,13 +1,8 @@
 -- The invariant: k bytes are stored.
 use mathlib.Core.Path.{◌≡◌}
-use Prim.Native.Nat.{◌-◌, ◌/◌, ◌≤◌}
-use lib.ListN.{length}
 use Rattle.hexadecimal.specs.Digits.{pairs_of}
 use Rattle.columns.proofs.Lists.{front}
 use Rattle.columns.proofs.runs.store_pairs.Given as goal
 
 abbrev pub invariant-loop-k : goal.invariant-loop-k
-invariant-loop-k l = (l.k ≤ length l.s / 2) × (l.buffer ≡ front l.k (pairs_of l.s) l.initial.buffer)
-
-abbrev pub decreases-loop-k : goal.decreases-loop-k
-decreases-loop-k l = length l.s / 2 - l.k
+invariant-loop-k l = l.buffer ≡ front l.k (pairs_of l.s) l.initial.buffer
