@@ -1,5 +1,10 @@
 -- The invariant, `Going`: what is known so far, with what is still to come, is what is known in the
--- end. The measure is what is left of the piece.
+-- end.
+use mathlib.Core.Path.{◌≡◌, ap, ◌∙◌}
+use Prim.Native.Nat.{ℕ}
+use native.Mathlib.Omega.{arith}
+use lib.ListN.{length}
+use Rattle.frames.specs.Digest.{fed_at}
 use Rattle.frames.proofs.Feeding.{at-newline, at-end, next, done, buffer-done}
 use Rattle.frames.proofs.digest.feed.Goals as goal
 
@@ -14,4 +19,5 @@ loop-i-preserved c = simp (c.with_digit-known.ensures, c.keep.ensures, c.value_o
 pub returns : goal.returns
 returns c =
     let stop = at-end _ _ c.loop-i-test.false in
-    (done c.loop-i.invariant stop, buffer-done c.loop-i.invariant stop)
+    let all : length c.args.input.now ≡ c.loop-i.i = omega (arith, c.loop-i-test.false, c.loop-i.invariant.within) in
+    (ap (fed_at c.loop-i.known) all ∙ done c.loop-i.invariant stop, buffer-done c.loop-i.invariant stop)
