@@ -2,15 +2,14 @@
 use mathlib.Core.Path.{◌≡◌, refl, sym, ap, ap₂, ◌∙◌}
 use mathlib.Core.List.{List}
 use Prim.Native.Nat.{ℕ, ◌+◌, ◌*◌, ◌/◌, ◌%◌, ◌-◌, ◌^◌, ◌≤◌, ◌<◌}
-use native.Mathlib.Nat.{mod-eq_of_lt, div-one}
+use native.Mathlib.Nat.{mod-eq_of_lt, div-one, add_comm}
 use native.Mathlib.Omega.{arith}
-use lib.Dec.{lit≤}
 use lib.ListN.{get_or}
-use lib.Pow.{shl_exact, ones_split, high, ones_lt}
-use lib.Bits.{bit_and, bit_or, and_mask, or_shifted_r}
+use lib.Pow.{ones_split, high, ones_lt}
+use lib.Bits.{bit_and, and_mask}
 use Rattle.bits.specs.Bits.{bit_at, bits_at}
 use Rattle.bits.proofs.Sums.{sum-ext, cut_high, cut_low}
-use Rattle.bits.proofs.Turns.{bit-lt, bits-lt, in-byte, more}
+use Rattle.bits.proofs.Turns.{bit-lt, in-byte, more}
 
 -- a whole byte
 pub byte : (bytes : List ℕ) (q p : ℕ) → p ≡ q * 8 → get_or bytes q 0 < 2 ^ 8 → bits_at bytes p 8 ≡ get_or bytes q 0
@@ -19,16 +18,6 @@ byte bytes q p e l =
     let m : p % 8 ≡ 0 = omega arith in
     let h : p % 8 + 8 ≤ 8 = omega arith in
     in-byte bytes p 8 h ∙ ap₂ (λ (a b : ℕ). get_or bytes a 0 / 2 ^ b % 2 ^ 8) d m ∙ ap (λ (x : ℕ). x % 2 ^ 8) (div-one (get_or bytes q 0)) ∙ mod-eq_of_lt l
-
--- one byte more
-pub next : (bytes : List ℕ) (q i k : ℕ) → i * 8 ≡ k → k + 8 ≤ 64 → get_or bytes (q + i) 0 < 2 ^ 8
-    → bit_or (bits_at bytes (q * 8) k) (get_or bytes (q + i) 0 * 2 ^ k % 2 ^ 64) ≡ bits_at bytes (q * 8) (k + 8)
-next bytes q i k e h l =
-    let p : q * 8 + k ≡ (q + i) * 8 = omega arith in
-    ap (bit_or (bits_at bytes (q * 8) k)) (shl_exact {a = get_or bytes (q + i) 0} 8 k 64 l (omega arith))
-    ∙ or_shifted_r (get_or bytes (q + i) 0) k (bits_at bytes (q * 8) k) (bits-lt bytes (q * 8) k)
-    ∙ ap (λ (x : ℕ). x * 2 ^ k + bits_at bytes (q * 8) k) (sym (byte bytes (q + i) (q * 8 + k) p l))
-    ∙ sym (more bytes (q * 8) k 8)
 
 -- n ones
 pub mask : (n : ℕ) → n ≤ 64 → (2 ^ 64 - 1) / 2 ^ (64 - n) ≡ 2 ^ n - 1
@@ -52,13 +41,20 @@ taken bytes q o n h =
     ∙ ap (λ (m : ℕ). bits_at bytes (q * 8) m / 2 ^ o % 2 ^ n) e
     ∙ inner bytes (q * 8) o n (64 - (o + n))
 
-one_more : (bytes : List ℕ) (q : ℕ) → ((i : ℕ) → get_or bytes i 0 < 2 ^ 8) → (i k : ℕ) {a r : ℕ} → r ≡ get_or bytes (q + i) 0 → a ≡ bits_at bytes (q * 8) k → i * 8 ≡ k → k + 8 ≤ 64
-    → bit_or a (r * 2 ^ k % 2 ^ 64) ≡ bits_at bytes (q * 8) (k + 8)
-one_more bytes q h i k e d m l = ap₂ (λ (a r : ℕ). bit_or a (r * 2 ^ k % 2 ^ 64)) d e ∙ next bytes q i k m l (h (q + i))
+-- the bytes before, and one byte more
+one_more : (bytes : List ℕ) (q : ℕ) → ((i : ℕ) → get_or bytes i 0 < 2 ^ 8) → (i k : ℕ) {a : ℕ} → a ≡ bits_at bytes (q * 8) k → i * 8 ≡ k
+    → a + get_or bytes (q + i) 0 * 2 ^ k ≡ bits_at bytes (q * 8) (k + 8)
+one_more bytes q h i k e m =
+    let p : q * 8 + k ≡ (q + i) * 8 = omega arith in
+    ap₂ (λ (a r : ℕ). a + r * 2 ^ k) e (sym (byte bytes (q + i) (q * 8 + k) p (h (q + i))))
+    ∙ add_comm (bits_at bytes (q * 8) k) (bits_at bytes (q * 8 + k) 8 * 2 ^ k)
+    ∙ sym (more bytes (q * 8) k 8)
 
--- the word, as the code puts it together
-pub word-code : (bytes : List ℕ) (q : ℕ) → ((i : ℕ) → get_or bytes i 0 < 2 ^ 8) → (r₀ r₁ r₂ r₃ r₄ r₅ r₆ r₇ : ℕ)
-    → r₀ ≡ get_or bytes q 0 → r₁ ≡ get_or bytes (q + 1) 0 → r₂ ≡ get_or bytes (q + 2) 0 → r₃ ≡ get_or bytes (q + 3) 0 → r₄ ≡ get_or bytes (q + 4) 0 → r₅ ≡ get_or bytes (q + 5) 0 → r₆ ≡ get_or bytes (q + 6) 0 → r₇ ≡ get_or bytes (q + 7) 0
-    → bit_or (bit_or (bit_or (bit_or (bit_or (bit_or (bit_or r₀ (r₁ * 2 ^ 8 % 2 ^ 64)) (r₂ * 2 ^ 16 % 2 ^ 64)) (r₃ * 2 ^ 24 % 2 ^ 64)) (r₄ * 2 ^ 32 % 2 ^ 64)) (r₅ * 2 ^ 40 % 2 ^ 64)) (r₆ * 2 ^ 48 % 2 ^ 64)) (r₇ * 2 ^ 56 % 2 ^ 64) ≡ bits_at bytes (q * 8) 64
-word-code bytes q h r₀ r₁ r₂ r₃ r₄ r₅ r₆ r₇ e₀ e₁ e₂ e₃ e₄ e₅ e₆ e₇ =
-    one_more bytes q h 7 56 e₇ (one_more bytes q h 6 48 e₆ (one_more bytes q h 5 40 e₅ (one_more bytes q h 4 32 e₄ (one_more bytes q h 3 24 e₃ (one_more bytes q h 2 16 e₂ (one_more bytes q h 1 8 e₁ (e₀ ∙ sym (byte bytes q (q * 8) refl (h q))) refl (lit≤ tt)) refl (lit≤ tt)) refl (lit≤ tt)) refl (lit≤ tt)) refl (lit≤ tt)) refl (lit≤ tt)) refl (lit≤ tt)
+-- the number of the 8 bytes from byte q on
+pub word-sum : (bytes : List ℕ) (q : ℕ) → ((i : ℕ) → get_or bytes i 0 < 2 ^ 8)
+    → get_or bytes q 0 + get_or bytes (q + 1) 0 * 2 ^ 8 + get_or bytes (q + 2) 0 * 2 ^ 16 + get_or bytes (q + 3) 0 * 2 ^ 24
+    + get_or bytes (q + 4) 0 * 2 ^ 32 + get_or bytes (q + 5) 0 * 2 ^ 40 + get_or bytes (q + 6) 0 * 2 ^ 48 + get_or bytes (q + 7) 0 * 2 ^ 56
+    ≡ bits_at bytes (q * 8) 64
+word-sum bytes q h =
+    one_more bytes q h 7 56 (one_more bytes q h 6 48 (one_more bytes q h 5 40 (one_more bytes q h 4 32 (one_more bytes q h 3 24 (one_more bytes q h 2 16
+    (one_more bytes q h 1 8 (sym (byte bytes q (q * 8) refl (h q))) refl) refl) refl) refl) refl) refl) refl

@@ -10,17 +10,10 @@ impl BitRefusal {
         ensures { result ≡ number_of self }
     {
         match self {
-            BitRefusal::BufferTooLong { length: _ } => 6,
-            BitRefusal::TooLongForType { max: _, asked: _ } => 1,
-            BitRefusal::NonAlignedBit { cursor: _ } => 3,
-            BitRefusal::OutOfBits {
-                asked: _,
-                available: _,
-            } => 2,
-            BitRefusal::OutOfBytes {
-                asked: _,
-                available: _,
-            } => 2,
+            BitRefusal::TooLongForType { .. } => 1,
+            BitRefusal::OutOfBits { .. } | BitRefusal::OutOfBytes { .. } => 2,
+            BitRefusal::NonAlignedBit { .. } => 3,
+            BitRefusal::BufferTooLong { .. } => 6,
         }
     }
 
@@ -29,17 +22,8 @@ impl BitRefusal {
         ensures { result ≡ length (carried_of self) }
     {
         match self {
-            BitRefusal::BufferTooLong { length: _ } => 1,
-            BitRefusal::TooLongForType { max: _, asked: _ } => 2,
-            BitRefusal::NonAlignedBit { cursor: _ } => 1,
-            BitRefusal::OutOfBits {
-                asked: _,
-                available: _,
-            } => 2,
-            BitRefusal::OutOfBytes {
-                asked: _,
-                available: _,
-            } => 2,
+            BitRefusal::NonAlignedBit { .. } | BitRefusal::BufferTooLong { .. } => 1,
+            _ => 2,
         }
     }
 
@@ -47,12 +31,16 @@ impl BitRefusal {
     pub fn carried(self, i: usize) -> usize
         ensures { result ≡ get_or (carried_of self) i 0 }
     {
-        match self {
-            BitRefusal::BufferTooLong { length } => of_two(length.0, 0, i),
-            BitRefusal::TooLongForType { max, asked } => of_two(max as usize, asked as usize, i),
-            BitRefusal::NonAlignedBit { cursor } => of_two(cursor.0, 0, i),
-            BitRefusal::OutOfBits { asked, available } => of_two(asked.0, available.0, i),
-            BitRefusal::OutOfBytes { asked, available } => of_two(asked.0, available.0, i),
+        match (self, i) {
+            (BitRefusal::TooLongForType { max, .. }, 0) => max as usize,
+            (BitRefusal::TooLongForType { asked, .. }, 1) => asked as usize,
+            (BitRefusal::OutOfBits { asked, .. }, 0) => asked.0,
+            (BitRefusal::OutOfBits { available, .. }, 1) => available.0,
+            (BitRefusal::OutOfBytes { asked, .. }, 0) => asked.0,
+            (BitRefusal::OutOfBytes { available, .. }, 1) => available.0,
+            (BitRefusal::NonAlignedBit { cursor }, 0) => cursor.0,
+            (BitRefusal::BufferTooLong { length }, 0) => length.0,
+            _ => 0,
         }
     }
 
@@ -61,30 +49,9 @@ impl BitRefusal {
         ensures { result ≡ unit_of self }
     {
         match self {
-            BitRefusal::BufferTooLong { length: _ } => 0,
-            BitRefusal::TooLongForType { max: _, asked: _ } => 0,
-            BitRefusal::NonAlignedBit { cursor: _ } => 0,
-            BitRefusal::OutOfBits {
-                asked: _,
-                available: _,
-            } => 1,
-            BitRefusal::OutOfBytes {
-                asked: _,
-                available: _,
-            } => 8,
+            BitRefusal::OutOfBits { .. } => 1,
+            BitRefusal::OutOfBytes { .. } => 8,
+            _ => 0,
         }
     }
-}
-
-// a at 0, b at 1, and 0 past them.
-fn of_two(a: usize, b: usize, i: usize) -> usize
-    ensures { result ≡ get_or (a ∷ b ∷ []) i 0 }
-{
-    if i == 0 {
-        return a;
-    }
-    if i == 1 {
-        return b;
-    }
-    0
 }

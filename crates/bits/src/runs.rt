@@ -12,14 +12,16 @@ fn word(s: &[u8], q: usize) -> u64
     requires { q + 8 ≤ length s.now }
     ensures { result ≡ bits_at s.now (q * 8) 64 }
 {
-    u64::from(s[q])
-        | (u64::from(s[q + 1]) << 8)
-        | (u64::from(s[q + 2]) << 16)
-        | (u64::from(s[q + 3]) << 24)
-        | (u64::from(s[q + 4]) << 32)
-        | (u64::from(s[q + 5]) << 40)
-        | (u64::from(s[q + 6]) << 48)
-        | (u64::from(s[q + 7]) << 56)
+    u64::from_le_bytes([
+        s[q],
+        s[q + 1],
+        s[q + 2],
+        s[q + 3],
+        s[q + 4],
+        s[q + 5],
+        s[q + 6],
+        s[q + 7],
+    ])
 }
 
 // n bits from bit `at` on: out of one word where they lie in one. Near the buffer's end that is its
@@ -130,10 +132,5 @@ pub(crate) fn store(s: &mut [u8], a: usize, src: &[u8])
     requires { a + length src.now ≤ length s.old }
     ensures { s.new ≡ paste s.old a src.now (length src.now) }
 {
-    let mut i = 0;
-    while i < src.len() {
-        let j = a + i;
-        s[j] = src[i];
-        i += 1;
-    }
+    s[a..a + src.len()].copy_from_slice(src);
 }
