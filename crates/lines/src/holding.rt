@@ -37,9 +37,7 @@ pub fn feed(held: Held, line: &mut [u8], input: &[u8]) -> Fed
     ensures { Feeds result line.new held line.old input.now }
 {
     let mut known = held;
-    let mut i = 0;
-    while i < input.len() {
-        let b = input[i];
+    for (i, &b) in input.iter().enumerate() {
         if b == b'\n' {
             return Fed {
                 held: known,
@@ -47,11 +45,10 @@ pub fn feed(held: Held, line: &mut [u8], input: &[u8]) -> Fed
             };
         }
         known = hold(known, line, b);
-        i += 1;
     }
     Fed {
         held: known,
-        taken: i,
+        taken: input.len(),
     }
 }
 

@@ -1,7 +1,6 @@
 -- The invariant, `Going`: what is known so far, with what is still to come, is what is known in the
 -- end.
 use mathlib.Core.Path.{◌≡◌, ap, ◌∙◌}
-use Prim.Native.Nat.{ℕ}
 use native.Mathlib.Omega.{arith}
 use lib.ListN.{length}
 use Rattle.frames.specs.Digest.{fed_at}

@@ -1,6 +1,8 @@
--- The invariant, `Going`: what is held so far, with what is still to come, is what is held in the end. The measure
--- is what is left of the piece.
-use Rattle.lines.proofs.Feeding.{at-newline, at-end, next, done, line-done}
+-- The invariant, `Going`: what is held so far, with what is still to come, is what is held in the end.
+use mathlib.Core.Path.{◌≡◌, ap, ◌∙◌}
+use native.Mathlib.Omega.{arith}
+use lib.ListN.{length}
+use Rattle.lines.proofs.Feeding.{at-newline, at-end, next, fed_at, done, line-done}
 use Rattle.lines.proofs.holding.feed.Goals as goal
 
 pub returns-then-b-eq10 : goal.returns-then-b-eq10
@@ -14,4 +16,5 @@ loop-i-preserved c = simp (c.hold-known.ensures.0, c.hold-known.ensures.1) (next
 pub returns : goal.returns
 returns c =
     let stop = at-end _ _ c.loop-i-test.false in
-    (done c.loop-i.invariant stop, line-done c.loop-i.invariant stop)
+    let all : length c.args.input.now ≡ c.loop-i.i = omega (arith, c.loop-i-test.false, c.loop-i.invariant.within) in
+    (ap (fed_at c.loop-i.known) all ∙ done c.loop-i.invariant stop, line-done c.loop-i.invariant stop)

@@ -1,12 +1,6 @@
--- The invariant, `Going`: what is held so far, with what is still to come, is what is held in the end. The measure
--- is what is left of the piece.
-use Prim.Native.Nat.{◌-◌}
-use lib.ListN.{length}
+-- The invariant, `Going`: what is held so far, with what is still to come, is what is held in the end.
 use Rattle.lines.proofs.Feeding.{Going}
 use Rattle.lines.proofs.holding.feed.Given as goal
 
 abbrev pub invariant-loop-i : goal.invariant-loop-i
 invariant-loop-i l = Going l.initial.known l.initial.line l.input l.known l.line l.i
-
-abbrev pub decreases-loop-i : goal.decreases-loop-i
-decreases-loop-i l = length l.input - l.i
