@@ -33,11 +33,13 @@ fn put_lines(line: Line, buffer: &[u8], page: &mut Page<'_>)
     ensures { PutsOn page.old (answer_by (frame_by line) buffer.now) page.new }
 {
     match frame_of(line) {
-        Ok(Frame {
-            message,
-            pgn,
-            received,
-        }) => {
+        Ok(
+            Frame {
+                message,
+                pgn,
+                received,
+            },
+        ) => {
             put_frame(page, pgn, received);
             put_payload(message, buffer, received, page);
         }
