@@ -9,11 +9,7 @@ use walking::Place;
 fn is_inside(words: &[u64], i: usize) -> bool
     ensures { result ≡ is_inside_lem (place_of (table_of words.now) i) }
 {
-    match walking::place_at(words, i) {
-        Place::Starts(_) => false,
-        Place::Inside => true,
-        Place::Plain => false,
-    }
+    matches!(walking::place_at(words, i), Place::Inside)
 }
 
 // The first field from `from` on that is not a later field of a set.
@@ -21,27 +17,21 @@ pub(crate) fn past_inside(words: &[u64], from: usize) -> usize
     ensures { Insides (table_of words.now) from result }
 {
     let n = tables::field_count(words);
-    let mut i = from;
-    while i < n {
-        if is_inside(words, i) {
-            i += 1;
-        } else {
+    for i in from..n {
+        if !is_inside(words, i) {
             return i;
         }
     }
-    i
+    from.max(n)
 }
 
 // A field up to which, from field i on, all are in no set.
 pub(crate) fn plain_until(words: &[u64], i: usize) -> usize
     ensures { Plains (table_of words.now) i result }
 {
-    let m = tables::set_count(words);
     let mut end = tables::field_count(words);
-    let mut k = 0;
-    while k < m {
+    for k in 0..tables::set_count(words) {
         end = clear_of(words, k, i, end);
-        k += 1;
     }
     end
 }
@@ -67,13 +57,10 @@ pub(crate) fn quiet_until(words: &[u64], i: usize, end: usize) -> usize
     requires { i < end }
     ensures { (i < result) × ((result ≤ end) × Quiet (table_of words.now) None i result) }
 {
-    let m = tables::set_count(words);
     let mut to = end;
-    let mut k = 0;
-    while k < m {
+    for k in 0..tables::set_count(words) {
         let set = tables::set_at(words, k);
         to = up_to(set.counter, i, to);
-        k += 1;
     }
     to
 }
