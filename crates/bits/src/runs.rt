@@ -71,26 +71,12 @@ fn patched(b: u8, o: usize, t: usize, x: u64) -> u8
     ((w & !left(m, o)) | left(x & m, o)) as u8
 }
 
-// The low byte of a word.
-fn low(w: u64) -> u8
-    ensures { result ≡ w % 2 ^ 8 }
-{
-    (w % 256) as u8
-}
-
 // Puts the word w at byte q. The compiler makes one store of it.
 fn put_word(s: &mut [u8], q: usize, w: u64)
     requires { q + 8 ≤ length s.old }
     ensures { s.new ≡ written s.old (q * 8) 64 w }
 {
-    s[q] = low(w);
-    s[q + 1] = low(w >> 8);
-    s[q + 2] = low(w >> 16);
-    s[q + 3] = low(w >> 24);
-    s[q + 4] = low(w >> 32);
-    s[q + 5] = low(w >> 40);
-    s[q + 6] = low(w >> 48);
-    s[q + 7] = low(w >> 56);
+    s[q..q + 8].copy_from_slice(&w.to_le_bytes());
 }
 
 // Puts the n low bits of v from bit `at` on: into one word where they lie in one, as `gather` does.
