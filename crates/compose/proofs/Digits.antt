@@ -34,6 +34,10 @@ complement-none true n e = let none : n ≡ 0 = omega (arith, ltb-false 0 n e) i
 
 -- ## A point
 
+-- the power of so many places
+pub power-fits : (n : ℕ) → n ≤ 15 → 10 ^ n < 2 ^ 64
+power-fits n l = let m : 10 ^ n ≤ 10 ^ 15 = pow-le-pow_right (omega arith) l in omega (arith, m)
+
 -- a number below a power of ten, then so many digits more
 pub joined : (a b m k : ℕ) → a < 10 ^ m → b < 10 ^ k → m + k ≤ 15 → a * 10 ^ k + b < 2 ^ 64
 joined a b m k l h f =

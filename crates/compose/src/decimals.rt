@@ -1,5 +1,5 @@
 // Signed and decimal numbers, as the 64 bits that their records hold.
-ghost use Rattle.std.specs.Prelude.{◌^◌, ◌≤◌, ◌≡◌, pos};
+ghost use Rattle.std.specs.Prelude.{◌≡◌, pos};
 ghost use Rattle.std.specs.Float.{binary64};
 ghost use Rattle.std.specs.Float.Ieee.{div, of_int};
 ghost use Rattle.compose.specs.Decimals.{is_negative_lem, unsigned, head_of, tail_of, is_signed, complement, signed_in, pattern_of, double_of, double_in};
@@ -83,20 +83,6 @@ pub(crate) fn signed(s: &[u8]) -> Option<u64>
     }
 }
 
-// Ten to the power of so many places.
-fn ten(places: usize) -> u64
-    requires { places ≤ 15 }
-    ensures { result ≡ 10 ^ places }
-{
-    let mut power: u64 = 1;
-    let mut i: usize = 0;
-    while i < places {
-        power *= 10;
-        i += 1;
-    }
-    power
-}
-
 // n over a power of ten: both are exact, and the division rounds once.
 fn quotient(n: u64, ten: u64) -> f64
     ensures { result ≡ div binary64 (of_int binary64 (pos n)) (of_int binary64 (pos ten)) }
@@ -125,7 +111,7 @@ fn unsigned_double(s: &[u8], negative: bool) -> Option<u64>
     if DIGITS < whole.len() + rest.len() {
         return None;
     }
-    let power = ten(rest.len());
+    let power = 10u64.pow(rest.len() as u32);
     let n = a * power + b.unwrap_or(0);
     Some(pattern(negative, quotient(n, power)))
 }
