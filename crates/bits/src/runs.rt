@@ -113,10 +113,13 @@ fn scatter_slow(s: &mut [u8], at: usize, n: usize, v: u64)
     }
 }
 
-// Copies src into s from byte a on.
+// Copies src into s from byte a on. Not by copy_from_slice: that is memmove, which the library would then want linked,
+// with a stack of its own.
 pub(crate) fn store(s: &mut [u8], a: usize, src: &[u8])
     requires { a + length src.now ≤ length s.old }
     ensures { s.new ≡ paste s.old a src.now (length src.now) }
 {
-    s[a..a + src.len()].copy_from_slice(src);
+    for i in 0..src.len() {
+        s[a + i] = src[i];
+    }
 }

@@ -1,5 +1,5 @@
 // The working payload: filled to the table's length where the table asks for it.
-ghost use Rattle.std.specs.Prelude.{◌≡◌, ◌++◌, ◌-◌, ◌≤◌, length, take, drop, replicate};
+ghost use Rattle.std.specs.Prelude.{◌≡◌, ◌++◌, ◌-◌, ◌≤◌, length, take, drop, replicate, get_or};
 ghost use Rattle.tables.specs.Table.{table_of};
 ghost use Rattle.reading.specs.Filling.{fills, picked_of, prepared_of};
 ghost use Rattle.reading.specs.Clauses.{Prepares};
@@ -15,13 +15,22 @@ pub fn is_filled(words: &[u64], received: usize) -> bool
     1 <= minimum && minimum <= received && received < tables::length_of(words)
 }
 
-// Puts the received bytes, and 0xFF after them up to n, at the front of the run.
+// The byte at a place, 0xFF past the end.
+fn filled_at(received: &[u8], i: usize) -> u8
+    ensures { result ≡ get_or received.now i 0xff }
+{
+    received.get(i).copied().unwrap_or(0xff)
+}
+
+// Puts the received bytes, and 0xFF after them up to n, at the front of the run. Not by copy_from_slice: that is memmove,
+// which the library would then want linked, with a stack of its own.
 fn fill(received: &[u8], padded: &mut [u8], n: usize)
     requires { (length received.now ≤ n) × (n ≤ length padded.old) }
     ensures { padded.new ≡ (received.now ++ replicate (n - length received.now) 0xff) ++ drop n padded.old }
 {
-    padded[..received.len()].copy_from_slice(received);
-    padded[received.len()..n].fill(0xff);
+    for i in 0..n {
+        padded[i] = filled_at(received, i);
+    }
 }
 
 // 7, 8, or nothing.
