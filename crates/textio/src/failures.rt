@@ -1,5 +1,5 @@
 // What is said on standard error.
-ghost use Rattle.std.specs.Prelude.{◌≤◌, length};
+ghost use Rattle.std.specs.Prelude.{◌≤◌, ◌≡◌, OnOk, length};
 
 use std::io::{Cursor, Error, Write};
 
@@ -14,8 +14,10 @@ pub enum Failure {
     Unfit,
 }
 
-// A line on standard error, with the program's name: what failed, and why.
-pub fn tell<E: Write>(name: &[u8], errors: &mut E, ended: Result<(), Failure>) {
+// A line on standard error, with the program's name: what failed, and why. Of a run that came to its end nothing is said.
+pub fn tell<E: Write>(name: &[u8], errors: &mut E, ended: Result<(), Failure>)
+    ensures quiet { OnOk ended (errors.new ≡ errors.old) }
+{
     match ended {
         Ok(()) | Err(Failure::Unfit) => {}
         Err(Failure::NoRoom) => {
