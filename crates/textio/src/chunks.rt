@@ -1,5 +1,6 @@
 // Reads and writes.
-ghost use Rattle.std.specs.Prelude.{◌≤◌, ◌≡◌, ◌+◌, ◌⊎◌, true, false, Ok, Some, None, length, take, IfOk, IfSome, OnOk};
+ghost use Rattle.std.specs.Prelude.{◌≤◌, ◌≡◌, ◌≢◌, ◌+◌, ◌⊎◌, true, false, Ok, Err, Some, None, length, take, IfOk, IfErr, IfSome, OnOk};
+ghost use Rattle.std.specs.IoError.{error_kind};
 ghost use Rattle.std.specs.Io.KnownBytes.{Appends, Consumes, IsAtEnd};
 ghost use Rattle.textio.specs.Io.{start_io, due_in, moved_to, fetched, chunk_of, IsLast, IsOver, Begins, Reads, Fetches};
 
@@ -102,6 +103,7 @@ pub fn store<W: Write>(
     ensures stores { IfOk result (λ r. r ≡ moved_to at (at.from + taken) waits) }
     ensures written { OnOk result (Appends (W.contents writer.old) (W.contents writer.new) (take n page.now)) }
     ensures begun { Begins (W.contents writer.old) (W.contents writer.new) (take n page.now) }
+    ensures retried { (e : Error) → result ≡ Err (Failure.Output e) → error_kind e ≢ ErrorKind.Interrupted }
 {
     if page.len() < n || at.to < at.from || at.to - at.from < taken {
         return Err(Failure::Unfit);
@@ -118,18 +120,26 @@ pub fn store<W: Write>(
 }
 
 // Writes all of a text, or stops at the first write that takes nothing or fails, when some of it may have
-// been written.
+// been written. A write that a signal interrupts has taken nothing, and is tried again.
 fn put<W: Write>(output: &mut W, text: &[u8]) -> Result<(), Error>
     ensures begun { Begins (W.contents output.old) (W.contents output.new) text.now }
     ensures whole { OnOk result (Appends (W.contents output.old) (W.contents output.new) text.now) }
+    ensures retried { IfErr result (λ e. error_kind e ≢ ErrorKind.Interrupted) }
 {
     let mut done = 0;
-    while done < text.len() {
-        let n = output.write(&text[done..])?;
-        if n == 0 {
-            return Err(Error::from(ErrorKind::WriteZero));
+    for _ in 0..u64::MAX {
+        if done == text.len() {
+            return Ok(());
         }
-        done += n;
+        match output.write(&text[done..]) {
+            Ok(0) => return Err(Error::new(ErrorKind::WriteZero, "failed to write whole buffer")),
+            Ok(n) => done += n,
+            Err(error) if error.kind() == ErrorKind::Interrupted => {}
+            Err(error) => return Err(error),
+        }
     }
-    Ok(())
+    Err(Error::new(
+        ErrorKind::TimedOut,
+        "gave up reading or writing after 2^64 tries",
+    ))
 }
