@@ -91,6 +91,10 @@ for program in bitcalls numbercalls tablecalls samopute readcalls compose; do
     for _ in $(seq 100); do cat "$list/stdout"; done >"$work/wanted"
     same "the stored list a hundred times"
 
+    # A write that a signal interrupts is tried again: nothing is lost, and nothing is told.
+    pieces stop <"$work/in" >"$work/got" 2>&1
+    wrote "a write that a signal interrupts"
+
     # The output fails, in the middle of answers that take several lines too: it is told once.
     if [ -w /dev/full ]; then
         run "$program" <"$work/in" 2>"$work/err" >/dev/full
