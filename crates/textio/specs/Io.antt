@@ -1,5 +1,5 @@
 -- Where a program stands with its input and output: what is handed on from call to call. What is read and written is said where the bytes of the reader and the writer are known.
-use Rattle.std.specs.Prelude.{◌≡◌, ℕ, ◌+◌, ◌-◌, ◌<◌, List, Bool, true, false, not, ◌||◌, ◌&&◌, ◌⊎◌, [], if◌then◌else◌, take, eqb, leb, ltb, length, get_or}
+use Rattle.std.specs.Prelude.{◌≡◌, ℕ, ◌-◌, ◌<◌, List, Bool, true, false, not, ◌||◌, ◌&&◌, ◌⊎◌, [], if◌then◌else◌, take, eqb, leb, ltb, length, get_or}
 use Rattle.std.specs.Prelude.{Option, Some, None, Result, Ok, Err}
 use Rattle.std.specs.Io.KnownBytes.{Appends, IsAtEnd}
 use Rattle.textio.specs.declared.Io.{Io}
