@@ -3,7 +3,8 @@
 // Promise: what a call of a program put is written, once, before more input is read; so is the answer to
 // a line that has found no room, as no read comes before the call that puts it (specs/Io.antt). At the
 // end of the input a line that lacks its newline gets one. Where the input or the output fails it is said
-// on standard error, and the program ends; a line that a failed read cuts short is not answered.
+// on standard error, and the program ends; a line that a failed read cuts short is not answered. A write
+// that a signal interrupts is no failure: it is tried again.
 // Where a reader's bytes and a writer's are known, a contract says what is read and written: the input's
 // next bytes, each once, and the page, or a beginning of it where a write fails. What that comes to, turn
 // by turn, is proofs/Turns.antt: `run`, of any program of `lines`, writes the text of its whole input
