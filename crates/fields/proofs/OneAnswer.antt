@@ -11,6 +11,7 @@ use Rattle.fields.proofs.DecodeRefusal.number.Reads as number
 use Rattle.fields.proofs.DecodeRefusal.carried_count.Reads as carried-count
 use Rattle.fields.proofs.DecodeRefusal.carried.Reads as carried
 use Rattle.fields.proofs.DecodeRefusal.unit.Reads as unit
+use Rattle.fields.proofs.refusals.DecodeRefusalFromBrokenRule.from.Reads as refused_by
 
 one-field-availability : Fixes field-availability.Post (λ κs x s. x)
 one-field-availability = fixed (λ κs a x s p. p)
@@ -41,3 +42,6 @@ one-is-gap = fixed (λ κs a x s p. p)
 
 one-shape-of : Fixes shape_of.Post (λ κs x s. x)
 one-shape-of = fixed (λ κs a x s p. p)
+
+one-refused-by : Fixes refused_by.Post (λ κs x s. x)
+one-refused-by = fixed (λ κs a x s p. p)

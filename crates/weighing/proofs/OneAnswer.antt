@@ -6,6 +6,7 @@ use Rattle.weighing.proofs.weigh.weigh_gap.Reads as weigh-gap
 use Rattle.weighing.proofs.EncodeRefusal.number.Reads as number
 use Rattle.weighing.proofs.EncodeRefusal.carried_count.Reads as carried-count
 use Rattle.weighing.proofs.EncodeRefusal.carried.Reads as carried
+use Rattle.weighing.proofs.refusals.EncodeRefusalFromBrokenRule.from.Reads as refused_by
 
 one-weigh-field : Fixes weigh-field.Post (λ κs x s. x)
 one-weigh-field = fixed (λ κs a x s p. p)
@@ -21,3 +22,6 @@ one-carried-count = fixed (λ κs a x s p. p)
 
 one-carried : Fixes carried.Post (λ κs x s. x)
 one-carried = fixed (λ κs a x s p. p)
+
+one-refused-by : Fixes refused_by.Post (λ κs x s. x)
+one-refused-by = fixed (λ κs a x s p. p)
