@@ -75,7 +75,7 @@ module _ (rule : TableRule) (t : Table) where
   step i n = refl
 
   -- i keeps the rule: the search goes on past it
-  found-later : (i n : ℕ) → i < n → keeps rule t i ≡ true → found_from rule t i (n - i) ≡ found_from rule t (i + 1) (n - (i + 1))
+  pub found-later : (i n : ℕ) → i < n → keeps rule t i ≡ true → found_from rule t i (n - i) ≡ found_from rule t (i + 1) (n - (i + 1))
   found-later i n l k =
       let e : n - i ≡ suc (n - (i + 1)) = omega arith in
       ap (found_from rule t i) e ∙ step i (n - (i + 1)) ∙ ap (λ (b : Bool). pick b (found_from rule t (suc i) (n - (i + 1))) (Some i)) k

@@ -20,11 +20,11 @@ module _ (t : Table) (i : ℕ) where
   more k m l = let e : m - k ≡ suc (m - suc k) = omega arith in ap (place_from t i k) e
 
   -- set k starts at the field
-  place_here : (k m : ℕ) → k < m → eqb (t.set k).start i ≡ true → place_from t i k (m - k) ≡ Starts k
+  pub place_here : (k m : ℕ) → k < m → eqb (t.set k).start i ≡ true → place_from t i k (m - k) ≡ Starts k
   place_here k m l h = more k m l ∙ ap (λ (b : Bool). pick b (Starts k) (place_from t i (suc k) (m - suc k))) h
 
   -- it does not
-  place-later : (k m : ℕ) → k < m → eqb (t.set k).start i ≡ false → place_from t i k (m - k) ≡ place_from t i (k + 1) (m - (k + 1))
+  pub place-later : (k m : ℕ) → k < m → eqb (t.set k).start i ≡ false → place_from t i k (m - k) ≡ place_from t i (k + 1) (m - (k + 1))
   place-later k m l h =
       more k m l ∙ ap (λ (b : Bool). pick b (Starts k) (place_from t i (suc k) (m - suc k))) h
       ∙ (let e : suc k ≡ k + 1 = omega arith in ap (λ (x : ℕ). place_from t i x (m - x)) e)
