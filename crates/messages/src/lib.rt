@@ -3,8 +3,8 @@
 //
 // Promise: `message_of` answers which message a PGN is, and this list is the only one: whoever reads or
 // writes by a PGN goes by it. `Message::table` lends the table of each, the words that specs/Tables.antt
-// lists, and proofs/Accepted.antt computes that the table check accepts them. None of the four has a
-// length or a minimum.
+// lists, which are those of the constant of its name; proofs/Accepted.antt computes that the table check
+// accepts them. None of the four has a length or a minimum.
 #![tactic(auto)]
 
 ghost use Rattle.std.specs.Prelude.{◌≡◌};
@@ -69,7 +69,7 @@ const COUNTER: u64 = 0x1_0000_0000;
 const MAXIMUM: u64 = 0x1_0000_0000_0000;
 
 // Position: 2 fields.
-const TABLE_129025: [u64; 3] = [
+pub const TABLE_129025: [u64; 3] = [
     2,
     // 0 latitude, 1 longitude
     NUMBER + 32 * BIT + SIGNED + DOUBLE_1E_7,
@@ -77,7 +77,7 @@ const TABLE_129025: [u64; 3] = [
 ];
 
 // Course and speed over ground: 6 fields.
-const TABLE_129026: [u64; 7] = [
+pub const TABLE_129026: [u64; 7] = [
     6,
     // 0 SID, 1 COG reference, 2 Reserved
     NUMBER + 8 * BIT,
@@ -91,7 +91,7 @@ const TABLE_129026: [u64; 7] = [
 
 // Position by satellite: 15 fields, then a set of 3 for each reference station. The last of the 15
 // says how many stations follow.
-const TABLE_129029: [u64; 20] = [
+pub const TABLE_129029: [u64; 20] = [
     18 + SETS,
     // 0 SID, 1 date, 2 time
     NUMBER + 8 * BIT,
@@ -122,7 +122,7 @@ const TABLE_129029: [u64; 20] = [
 ];
 
 // Ours, three numbers to a sample: 8 fields.
-const TABLE_130900: [u64; 9] = [
+pub const TABLE_130900: [u64; 9] = [
     8,
     // 0 manufacturer, 1 Reserved, 2 industry, 3 SID
     LOOKUP + 11 * BIT,
@@ -137,16 +137,24 @@ const TABLE_130900: [u64; 9] = [
 ];
 
 impl Message {
-    // The message's table.
-    pub fn table(self) -> CheckedTable<'static>
-        ensures { result.words.now ≡ words_of self }
+    // The words of the message's table.
+    fn words(self) -> &'static [u64]
+        ensures { result.now ≡ words_of self }
     {
-        let words: &'static [u64] = match self {
+        match self {
             Message::M129025 => &TABLE_129025,
             Message::M129026 => &TABLE_129026,
             Message::M129029 => &TABLE_129029,
             Message::M130900 => &TABLE_130900,
-        };
-        CheckedTable { words }
+        }
+    }
+
+    // The message's table.
+    pub fn table(self) -> CheckedTable<'static>
+        ensures { result.words.now ≡ words_of self }
+    {
+        CheckedTable {
+            words: self.words(),
+        }
     }
 }
