@@ -1,21 +1,23 @@
 -- Limits, and the cases of quantizing: what a cut that fits answers, and one that does not. Assumes nothing.
-use mathlib.Core.Path.{◌≡◌, refl, sym, ap}
+use mathlib.Core.Path.{◌≡◌, refl, sym, ap, ◌∙◌}
 use mathlib.Core.Bool.{Bool, true, false, true≢false, false≢true}
-use Prim.Native.Nat.{ℕ, ◌-◌, ◌*◌, ◌/◌, ◌^◌, ◌≤◌}
+use Prim.Native.Nat.{ℕ, ◌+◌, ◌-◌, ◌*◌, ◌/◌, ◌^◌, ◌≤◌}
 use native.Mathlib.Omega.{arith}
-use lib.Dec.{ltb}
+use lib.Dec.{leb, ltb}
 use lib.IntN.{ℤ, pos, negsuc, nat_abs}
 use lib.Pow.{pow_mono}
 use lib.Signed.{lt_z}
-use lib.Ieee.{Float, nan, inf, fin, up, down}
+use lib.Ieee.{Float, nan, inf, fin, up, down, div, binary64}
 use Rattle.std.specs.Float.{float_is_finite}
-use Rattle.std.specs.Prelude.{Option, Some, None, Result, Err}
+use Rattle.std.specs.Prelude.{Option, Some, None, Result, Ok, Err}
 use borrow.Author.Tests.{le-ltb}
+use Rattle.bits.specs.Bits.{pick}
 use Rattle.rounding.specs.declared.Truncated.{Truncated}
 use Rattle.rounding.specs.Truncation.{half_away_of, cut_to, truncated_of, below64}
 use Rattle.numbers.specs.declared.NumberRefusal.{NumberRefusal}
-use Rattle.numbers.specs.declared.NumberRefusal.TheVariants.{OutOfRange}
-use Rattle.numbers.specs.Quantizing.{limit_of_lem, exactly_of, nearly_of, cut_of, rounded_of, integer_of}
+use Rattle.numbers.specs.declared.NumberRefusal.TheVariants.{BadWidth, OutOfRange, WrongKind}
+use Rattle.numbers.specs.Holds.{is_width_lem}
+use Rattle.numbers.specs.Quantizing.{limit_of_lem, complement_of, exactly_of, nearly_of, cut_of, rounded_of, quotient_of, quantize_of, integer_of}
 
 -- a limit of n bits is at most 2 ^ n
 pub limit-le : (n : ℕ) (signed negative : Bool) → limit_of_lem n signed negative ≤ 2 ^ n
@@ -57,3 +59,38 @@ unfolding truncated_of
 cut_fits n signed nan s x h = let z : ◌≡◌ {A = ℕ} 0 1 = cc in absurd (omega arith)
 cut_fits n signed (inf t) s x h = let z : ◌≡◌ {A = ℕ} 0 1 = cc in absurd (omega arith)
 cut_fits n signed (fin t m e) s x h = taken n signed (ltb (m * up e / down e) (2 ^ 64)) t s (m * up e / down e) x h
+
+-- a value of a scaled field is never of the wrong kind: of the refusals only 1 and 10 are answered
+abbrev kindly : Result ℕ NumberRefusal → Bool
+kindly (Ok raw) = true
+kindly (Err (BadWidth n)) = true
+kindly (Err OutOfRange) = true
+kindly (Err WrongKind) = false
+
+nearly-kindly : (n : ℕ) (signed negative : Bool) (m : ℕ) → kindly (nearly_of n signed negative m) ≡ true
+nearly-kindly n signed negative m =
+    let limit = limit_of_lem n signed negative in
+    go (leb m limit) (ltb 53 n) (leb m (limit + 2 ^ (n - 53))) (complement_of n negative m) (complement_of n negative limit)
+  where
+    go : (a b c : Bool) (x y : ℕ) → kindly (pick a (Ok x) (pick b (pick c (Ok y) (Err OutOfRange)) (Err OutOfRange))) ≡ true
+    go true b c x y = refl
+    go false true true x y = refl
+    go false true false x y = refl
+    go false false c x y = refl
+
+cut-kindly : (n : ℕ) (signed : Bool) (y : Float) → kindly (cut_of n signed y) ≡ true
+cut-kindly n signed nan = refl
+cut-kindly n signed (inf s) = refl
+cut-kindly n signed (fin s m e) = nearly-kindly n signed s (m * up e / down e)
+
+rounded-kindly : (n : ℕ) (signed : Bool) (q : Float) → kindly (rounded_of n signed q) ≡ true
+rounded-kindly n signed nan = refl
+rounded-kindly n signed (inf s) = refl
+rounded-kindly n signed (fin s m e) = cut-kindly n signed (half_away_of (fin s m e))
+
+pub quantized-kind : (v r : Float) (n : ℕ) (signed : Bool) → quantize_of v r n signed ≡ Err WrongKind → ⊥
+quantized-kind v r n signed h = go (is_width_lem n) (rounded-kindly n signed (div binary64 v r)) h
+  where
+    go : (b : Bool) → kindly (quotient_of v r n signed) ≡ true → pick b (quotient_of v r n signed) (Err (BadWidth n)) ≡ Err WrongKind → ⊥
+    go true k e = true≢false (sym k ∙ ap kindly e)
+    go false k e = true≢false (ap kindly e)

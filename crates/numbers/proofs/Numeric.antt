@@ -1,6 +1,6 @@
 -- Which fields hold a number: those of a numeric kind, of 1 to 64 bits; and only they give a raw. Assumes nothing.
-use mathlib.Core.Path.{◌≡◌, refl, ap₂}
-use mathlib.Core.Bool.{Bool, true, false, ◌&&◌, false≢true}
+use mathlib.Core.Path.{◌≡◌, refl, sym, ap, ap₂, ◌∙◌}
+use mathlib.Core.Bool.{Bool, true, false, ◌&&◌, true≢false, false≢true}
 use Prim.Native.Nat.{ℕ, ◌≤◌}
 use native.Mathlib.Omega.{arith}
 use lib.Dec.{leb}
@@ -10,7 +10,7 @@ use Rattle.bits.specs.Bits.{pick}
 use Rattle.bits.specs.Calls.{width_max}
 use Rattle.descriptor.specs.declared.FieldDescriptor.{FieldDescriptor}
 use Rattle.numbers.specs.declared.NumberRefusal.{NumberRefusal}
-use Rattle.numbers.specs.declared.NumberRefusal.TheVariants.{BadWidth, WrongKind}
+use Rattle.numbers.specs.declared.NumberRefusal.TheVariants.{BadWidth, OutOfRange, WrongKind}
 use Rattle.numbers.specs.Holds.{is_width_lem, is_numeric_lem, holds_of}
 use Rattle.numbers.specs.Conversions.{if_held}
 
@@ -33,3 +33,18 @@ holds f k l h =
 pub given-held : (h : Result (Unit {0}) NumberRefusal) (x : Result ℕ NumberRefusal) (r : ℕ) → if_held h x ≡ Ok r → x ≡ Ok r
 given-held (Ok u) x r e = e
 given-held (Err w) x r e = let z : ◌≡◌ {A = ℕ} 0 1 = cc in absurd (omega arith)
+
+-- whether a field holds a number is no question of range: 10 is never the answer
+abbrev unranged : Result (Unit {0}) NumberRefusal → Bool
+unranged (Ok u) = true
+unranged (Err (BadWidth n)) = true
+unranged (Err OutOfRange) = false
+unranged (Err WrongKind) = true
+
+pub held-in-range : (f : FieldDescriptor) → holds_of f ≡ Err OutOfRange → ⊥
+held-in-range f h = go (is_numeric_lem f.kind f.width) (is_width_lem f.width) (Ok tt) refl h
+  where
+    go : (k w : Bool) (u : Result (Unit {0}) NumberRefusal) → unranged u ≡ true → pick k (pick w u (Err (BadWidth f.width))) (Err WrongKind) ≡ Err OutOfRange → ⊥
+    go true true u l e = true≢false (sym l ∙ ap unranged e)
+    go true false u l e = true≢false (ap unranged e)
+    go false w u l e = true≢false (ap unranged e)

@@ -19,6 +19,9 @@ use Rattle.numbers.proofs.holding.holds_number.Reads as holds-number
 use Rattle.numbers.proofs.NumberRefusal.number.Reads as number
 use Rattle.numbers.proofs.NumberRefusal.carried_count.Reads as carried-count
 use Rattle.numbers.proofs.NumberRefusal.carried.Reads as carried
+use Rattle.numbers.proofs.refusals.raw_number.Reads as raw-number
+use Rattle.numbers.proofs.refusals.raw_carried_count.Reads as raw-carried-count
+use Rattle.numbers.proofs.refusals.raw_carried.Reads as raw-carried
 
 one-sign-extend : Fixes sign-extend.Post (λ κs x s. x)
 one-sign-extend = fixed (λ κs a x s p. p)
@@ -73,3 +76,12 @@ one-carried-count = fixed (λ κs a x s p. p)
 
 one-carried : Fixes carried.Post (λ κs x s. x)
 one-carried = fixed (λ κs a x s p. p)
+
+one-raw-number : Fixes raw-number.Post (λ κs x s. x)
+one-raw-number = fixed (λ κs a x s p. p)
+
+one-raw-carried-count : Fixes raw-carried-count.Post (λ κs x s. x)
+one-raw-carried-count = fixed (λ κs a x s p. p)
+
+one-raw-carried : Fixes raw-carried.Post (λ κs x s. x)
+one-raw-carried = fixed (λ κs a x s p. p)

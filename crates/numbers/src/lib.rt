@@ -21,6 +21,7 @@ pub use crate::conversions::{number_to_raw, pgn_value_to_f64, pgn_value_to_i64, 
 pub use crate::holding::holds_number;
 pub use crate::quantizing::quantize;
 pub use crate::raws::sign_extend;
+pub use crate::refusals::{raw_carried, raw_carried_count, raw_number};
 pub use crate::scale::scale_raw_field;
 pub use crate::special::{counter_elements, number_availability};
 pub use crate::words::{code_of, number_words, silence_of, simple_words, word_of};
@@ -50,7 +51,8 @@ pub struct NumberWords {
     pub silence: u64,
 }
 
-// Why a number is refused. `number` gives document 01's number, `carried` what it carries.
+// Why a number is refused. `number` gives document 01's number, `carried` what it carries; `raw_number`
+// and `raw_carried` those of an answer that may be a raw.
 #[derive(Clone, Copy)]
 pub enum NumberRefusal {
     // 1: this width, of 0 bits or over 64.

@@ -37,3 +37,22 @@ impl NumberRefusal {
         }
     }
 }
+
+// The same of a whole answer: 0 of a raw, which carries nothing.
+pub fn raw_number(answer: Result<u64, NumberRefusal>) -> u32
+    ensures { result ≡ number_of answer }
+{
+    answer.err().map_or(0, |refusal| refusal.number())
+}
+
+pub fn raw_carried_count(answer: Result<u64, NumberRefusal>) -> usize
+    ensures { result ≡ length (carried_of answer) }
+{
+    answer.err().map_or(0, |refusal| refusal.carried_count())
+}
+
+pub fn raw_carried(answer: Result<u64, NumberRefusal>, i: usize) -> usize
+    ensures { result ≡ get_or (carried_of answer) i 0 }
+{
+    answer.err().map_or(0, |refusal| refusal.carried(i))
+}
