@@ -1,4 +1,4 @@
--- A chunk, line by line, as `pass_lines` goes through it: what of the call is left to do. Assumes nothing.
+-- A chunk, line by line, as `pass` goes through it: what of the call is left to do. Assumes nothing.
 use mathlib.Core.Path.{◌≡◌, refl, sym, ap, ◌∙◌}
 use mathlib.Core.Bool.{Bool, true, false}
 use mathlib.Core.List.{List, [], ◌∷◌}

@@ -24,5 +24,5 @@ pub mod Programs
 mod OneAnswer
 -- a line by itself is answered whole, with its newline or without
 pub mod Whole
--- the loop of `pass_lines`
+-- the loop of `pass`
 pub mod Chunk

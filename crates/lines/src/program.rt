@@ -3,9 +3,10 @@ ghost use Rattle.std.specs.Prelude.{◌≡◌, ℕ, List, length};
 ghost use Rattle.text.specs.Sheet.{Puts, PutsOn};
 ghost use Rattle.lines.specs.Machine.{Machine, up_to_newline, feds};
 ghost use Rattle.lines.specs.Held.{nothing_held, Store, store, held};
+ghost use Rattle.lines.specs.Passing.{Passes};
 
-use crate::Held;
 use crate::holding::{feed, line_of, nothing};
+use crate::{Held, Passed};
 use text::Page;
 
 // A program that answers lines, by what it holds of the line that is being taken.
@@ -29,6 +30,52 @@ pub trait Program {
     // The next line begins.
     fn begin_line(&mut self)
         ensures { kept self.new ≡ machine.fresh (kept self.old) };
+
+    // One call: the line that waits is answered first, and then the lines that end in the chunk, one after
+    // another, until one finds no room on the page or the chunk is all taken.
+    fn pass(&mut self, waits: bool, input: &[u8], out: &mut [u8], at: usize) -> Passed
+        ensures { Passes machine result (kept self.new) out.new (kept self.old) waits input.now out.old at }
+    {
+        let mut taken = 0;
+        let mut to = at;
+        if waits {
+            to = self.put_answer(out, at);
+            if out.len() < to {
+                return Passed {
+                    waits,
+                    taken: 0,
+                    to: at,
+                };
+            }
+            self.begin_line();
+        }
+        while taken < input.len() {
+            let end = taken + self.feed(&input[taken..]);
+            if input.len() <= end {
+                return Passed {
+                    waits: false,
+                    taken: end,
+                    to,
+                };
+            }
+            let next = self.put_answer(out, to);
+            if out.len() < next {
+                return Passed {
+                    waits: true,
+                    taken: end + 1,
+                    to,
+                };
+            }
+            self.begin_line();
+            taken = end + 1;
+            to = next;
+        }
+        Passed {
+            waits: false,
+            taken,
+            to,
+        }
+    }
 }
 
 // What answers whole lines, each by itself.

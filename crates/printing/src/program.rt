@@ -4,8 +4,9 @@ ghost use Rattle.frames.specs.Digest.{empty_line_lem};
 ghost use Rattle.printing.specs.Answers.{Kept, kept, samopute};
 
 use crate::answers::put_answer;
+use crate::passing::pass;
 use frames::{Line, empty_line, feed};
-use lines::Program;
+use lines::{Passed, Program};
 
 // What the program keeps of a line: what is known of it, and the first N bytes of its payload.
 #[derive(Drop)]
@@ -45,5 +46,15 @@ impl<const N: usize> Program for Printing<N> {
 
     fn begin_line(&mut self) {
         self.line = empty_line();
+    }
+
+    fn pass(&mut self, waits: bool, input: &[u8], out: &mut [u8], at: usize) -> Passed {
+        let passed = pass(self.line, waits, &mut self.buffer, input, out, at);
+        self.line = passed.line;
+        Passed {
+            waits: passed.waits,
+            taken: passed.taken,
+            to: passed.to,
+        }
     }
 }
