@@ -14,6 +14,8 @@ pub mod Stream
 mod Feeding
 -- a chunk, line by line: up to its first newline, or all of it
 pub mod UpTo
+-- what `next` answers, by what `feed` answers
+mod Taking
 -- two programs that answer the same lines alike print alike
 pub mod Alike
 -- the holder of lines is exact: a line that is too long for the buffer counts as an empty one
@@ -26,3 +28,5 @@ mod OneAnswer
 pub mod Whole
 -- the loop of `pass`
 pub mod Chunk
+-- the loop of a program over `next` and `answered` comes to one call
+pub mod Steps
