@@ -1,5 +1,5 @@
 // What answers lines, and what holds them.
-ghost use Rattle.std.specs.Prelude.{◌≡◌, ℕ, List, length};
+ghost use Rattle.std.specs.Prelude.{◌≡◌, ℕ, List, length, replicate};
 ghost use Rattle.text.specs.Sheet.{Puts, PutsOn};
 ghost use Rattle.lines.specs.Machine.{Machine, up_to_newline, feds};
 ghost use Rattle.lines.specs.Held.{nothing_held, Store, store, held};
@@ -99,7 +99,9 @@ pub struct Lines<A, const N: usize> {
 impl<A: Answers, const N: usize> Lines<A, N> {
     // Before the first byte of a line.
     pub fn new(answers: A) -> Lines<A, N>
-        ensures { result.held ≡ nothing_held }
+        ensures held { result.held ≡ nothing_held }
+        ensures line { result.line ≡ replicate N 0 }
+        ensures answers { result.answers ≡ answers }
     {
         Lines {
             held: nothing(),

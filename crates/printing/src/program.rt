@@ -1,5 +1,5 @@
 // The program, for a run of it.
-ghost use Rattle.std.specs.Prelude.{◌≡◌};
+ghost use Rattle.std.specs.Prelude.{◌≡◌, replicate};
 ghost use Rattle.frames.specs.Digest.{empty_line_lem};
 ghost use Rattle.printing.specs.Answers.{Kept, kept, samopute};
 
@@ -18,7 +18,8 @@ pub struct Printing<const N: usize> {
 impl<const N: usize> Printing<N> {
     // Before the first byte of a line.
     pub fn new() -> Printing<N>
-        ensures { result.line ≡ empty_line_lem }
+        ensures line { result.line ≡ empty_line_lem }
+        ensures buffer { result.buffer ≡ replicate N 0 }
     {
         Printing {
             line: empty_line(),

@@ -1,5 +1,6 @@
 -- Two pages allowed after a call are equal, bytes and place: of the contract of each public call as the source states it, `Post`. Assumes nothing.
 use Rattle.one_answer.proofs.Fixes.{Fixes, fixed}
+use Rattle.text.proofs.pages.Page.new.Reads as new
 use Rattle.text.proofs.pages.Page.put.Reads as put
 use Rattle.text.proofs.pages.Page.put_text.Reads as put-text
 use Rattle.text.proofs.pages.Page.put_decimal.Reads as put-decimal
@@ -12,6 +13,12 @@ use Rattle.text.proofs.pages.Page.put_number.Reads as put-number
 use Rattle.text.proofs.pages.Page.put_value.Reads as put-value
 use Rattle.text.proofs.pages.Page.put_refused.Reads as Put-refused
 use Rattle.text.proofs.pages.Page.put_malformed.Reads as put-malformed
+
+one-new : Fixes new.Post (λ κs x s. x.bytes)
+one-new = fixed (λ κs a x s p. p.0)
+
+one-new-place : Fixes new.Post (λ κs x s. x.at)
+one-new-place = fixed (λ κs a x s p. p.1)
 
 one-put : Fixes put.Post (λ κs x s. s.0.now)
 one-put = fixed (λ κs a x s p. p.is)

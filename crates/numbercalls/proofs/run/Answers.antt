@@ -5,4 +5,4 @@ use Rattle.numbercalls.specs.Answers.{answered, line_max}
 use Rattle.numbercalls.proofs.run.Goals as goal
 
 pub returns : goal.returns
-returns g c = printed-lines answered line_max _ _ _ _ _ _ c.new-program.ensures (search rules) c.run.ensures
+returns g c = printed-lines answered line_max _ _ _ _ _ _ c.new-program.ensures.held (search rules) c.run.ensures

@@ -15,5 +15,5 @@ returns g c =
     λ bytes. length (closed bytes) < 2 ^ 64 → Prints c.run.result (g.W.Write.contents c.args.writer.now) (g.W.Write.contents c.run.new.writer) (printed bytes) in
     let buffer = c.new-program.result.buffer in
     known_of _ _ Q
-    (λ bytes p small. subst (Prints _ _ _) (ap (λ (l : Line). text_from samopute (kept l buffer) (closed bytes)) c.new-program.ensures ∙ exact buffer (closed bytes) (search rules) small) p)
+    (λ bytes p small. subst (Prints _ _ _) (ap (λ (l : Line). text_from samopute (kept l buffer) (closed bytes)) c.new-program.ensures.line ∙ exact buffer (closed bytes) (search rules) small) p)
     c.run.ensures
