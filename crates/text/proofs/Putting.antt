@@ -38,6 +38,10 @@ pub put-lost : (page : Page) (b : ℕ) → length page.bytes.now ≤ page.at →
 unfolding put_all
 put-lost page b l = record { is = rw (le-ltb page.at (length page.bytes.now) l) refl }
 
+-- what is put on the bytes of a lent page, from its place on, is put on the page
+pub on-page : (page : Page) {text new : List ℕ} {to : ℕ} → Puts page.bytes.now page.at text new to → PutsOn page text (record { bytes = at_last page.bytes new; at = to })
+on-page page p = record { is = ap (showing page) p.is }
+
 -- what a page is once a text is put on it, as its bytes and its place
 pub on-sheet : {old new : Page} {text : List ℕ} → PutsOn old text new → Puts old.bytes.now old.at text new.bytes.now new.at
 on-sheet {old} {new} {text} p = record { is = ap (λ (x : Page). sheet x.bytes.now x.at) p.is ∙ again (put_all (sheet old.bytes.now old.at) text) }

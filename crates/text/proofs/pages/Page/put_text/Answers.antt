@@ -1,9 +1,5 @@
-use Rattle.std.proofs.Common.{rules}
-use Rattle.text.proofs.Putting.{nothing, more}
+use Rattle.text.proofs.Putting.{on-page}
 use Rattle.text.proofs.pages.Page.put_text.Goals as goal
 
-pub loop-b-init : goal.loop-b-init
-loop-b-init c = nothing c.args.self.now
-
-pub loop-b-preserved : goal.loop-b-preserved
-loop-b-preserved c = more c.args.text.now c.loop-b.b-index (search rules) c.loop-b.invariant c.put.ensures
+pub returns : goal.returns
+returns c = on-page c.args.self.now c.put_text_at-self.ensures
