@@ -1,10 +1,11 @@
 // Numbers in digits.
 ghost use Rattle.std.specs.Prelude.{◌<◌, ◌≤◌, min};
-ghost use Rattle.text.specs.Sheet.{PutsOn};
+ghost use Rattle.text.specs.Sheet.{Puts, PutsOn};
 ghost use Rattle.hexadecimal.specs.Digits.{digits_of};
 ghost use Rattle.text.specs.Digits.{digits_max, shortest, decimal_of, hex_of, fixed, spaced, spaced_hex, bytes_text};
 
 use crate::Page;
+use crate::pages::put_at;
 use hexadecimal::digit_of;
 
 // No number of 64 bits has more digits.
@@ -86,11 +87,7 @@ impl Page<'_> {
     pub fn put_pairs(&mut self, s: &[u8])
         ensures { PutsOn self.old (digits_of s.now) self.new }
     {
-        for b in s {
-            let x = u64::from(*b);
-            self.put(digit_of(x / 16));
-            self.put(digit_of(x));
-        }
+        self.at = put_pairs_at(self.bytes, self.at, s);
     }
 
     // The bytes of s, or '-' where there are none.
@@ -119,4 +116,17 @@ impl Page<'_> {
         self.put(b' ');
         self.put_hex(n);
     }
+}
+
+// Bytes from a place on, two digits each.
+fn put_pairs_at(page: &mut [u8], at: usize, s: &[u8]) -> usize
+    ensures { Puts page.old at (digits_of s.now) page.new result }
+{
+    let mut to = at;
+    for b in s {
+        let x = u64::from(*b);
+        let half = put_at(page, to, digit_of(x / 16));
+        to = put_at(page, half, digit_of(x));
+    }
+    to
 }
