@@ -51,19 +51,26 @@ impl Width {
     fn scaled(self, resolution: f32, value: PgnValue) -> Result<u64, NumberRefusal>
         ensures { result ≡ scaled_raw_of (to_f64_of value) resolution self.bits self.signed }
     {
-        let x = pgn_value_to_f64(value).ok_or(NumberRefusal::WrongKind)?;
+        let Some(x) = pgn_value_to_f64(value) else {
+            return Err(NumberRefusal::WrongKind);
+        };
         self.quotient(x, resolution)
     }
 
     // The raw of a value in an unscaled field.
+    #[inline(always)]
     fn whole(self, value: PgnValue) -> Result<u64, NumberRefusal>
         ensures { result ≡ whole_raw_of self.bits self.signed value }
     {
         if self.signed {
-            let z = pgn_value_to_i64(value).ok_or(NumberRefusal::WrongKind)?;
+            let Some(z) = pgn_value_to_i64(value) else {
+                return Err(NumberRefusal::WrongKind);
+            };
             return self.exactly(z < 0, rounding::magnitude(z));
         }
-        let m = pgn_value_to_u64(value).ok_or(NumberRefusal::WrongKind)?;
+        let Some(m) = pgn_value_to_u64(value) else {
+            return Err(NumberRefusal::WrongKind);
+        };
         self.exactly(false, m)
     }
 }
@@ -77,7 +84,9 @@ fn float(value: PgnValue) -> Result<u64, NumberRefusal>
     Ok(rounding::bits_of_f32(x) as u64)
 }
 
-// A field that may be scaled: its width where it is, and where it is not.
+// A field that may be scaled: its width where it is, and where it is not. Called, it would be handed value
+// and answer through memory, in pieces.
+#[inline(always)]
 fn resolved(
     resolution: Resolution,
     scaled: Width,

@@ -60,6 +60,7 @@ fn as_f32(word: u64) -> Offer
 
 // The number with this code and these 64 bits. A code of no number is of no kind, and so are bits that
 // are no value of the code's kind.
+#[inline(always)]
 pub fn offer_of(code: u32, word: u64) -> Offer
     ensures { result ≡ offer_of_lem code word }
 {
