@@ -28,7 +28,7 @@ set_more [] (y ∷ ys) x l = refl
 set_more (z ∷ xs) [] x l = absurd (omega arith)
 set_more (z ∷ xs) (y ∷ ys) x l = ap (λ (zs : List _). z ∷ zs) (set_more xs ys x (omega (arith, l)))
 
-none_read : (rs : List Reading) → 0 ≡ length rs → rs ≡ []
+pub none_read : (rs : List Reading) → 0 ≡ length rs → rs ≡ []
 none_read [] h = refl
 none_read (r ∷ rs) h = absurd (omega (arith, h))
 

@@ -1,5 +1,5 @@
 -- What each call answers and leaves, as its contract says it: one equation for the answer, and one for each buffer that is lent to be written, at exit. They put the
--- definitions of `reading` and Run together over the words and bytes themselves, and rule nothing of their own: only the code needs them.
+-- definitions of `reading`, Run and Steps together over the words and bytes themselves, and rule nothing of their own: only the code needs them.
 use Rattle.std.specs.Prelude.{◌≡◌, ◌<◌, ℕ, List, length, map, Result, Ok}
 use Rattle.tables.specs.Table.{table_of}
 use Rattle.fields.specs.declared.DecodeRefusal.{DecodeRefusal}
@@ -10,7 +10,15 @@ use Rattle.reading.specs.declared.Reading.{Reading}
 use Rattle.reading.specs.declared.Decoded.{Decoded}
 use Rattle.reading.specs.Filling.{run_after}
 use Rattle.reading.specs.Decode.{walk_of, readings, spans_of, end_of, decoded_of_lem}
+use Rattle.lent_readings.specs.declared.Step.{Step}
 use Rattle.lent_readings.specs.Run.{entries_of, entries_after, entries_as}
+use Rattle.lent_readings.specs.Steps.{step_of, padded_after}
+
+-- `turn`: the step, the padding run
+abbrev pub Turns : Step → List ℕ → List ℕ → List ℕ → List ℕ → Step → ℕ → Type 0
+Turns r run words received padded c room =
+    let t = table_of words in
+    (r ≡ step_of t received padded room c) × (run ≡ padded_after t received padded c)
 
 -- a reading that is handed out has its place among so many
 abbrev pub Seats : Result Answer DecodeRefusal → ℕ → ℕ → Type 0

@@ -4,23 +4,44 @@
 // specs/Decode.antt of `reading` says, with as much room as the run has entries. The padding run holds at
 // exit what specs/Filling.antt there says. The run of readings holds, from its first entry on, the
 // readings that were made, a refused decode's too; every later entry is as it was. `decode_as` does the
-// same into a run of anything that is made of a reading. No call has a `requires`.
+// same into a slice of what an `Entry` makes of each reading. Turn by turn, a caller stores whatever it makes
+// of each reading, wherever it will: `turn` says where. No call has a `requires`.
 //
-// That the turns of the loop come to a decode is proofs/Turns.antt.
+// That the turns of the loop come to a decode is proofs/Turns.antt; that those of a caller do, with the first
+// one, which prepares, is proofs/Stepwise.antt.
 //
-//     decode        into a run of readings
-//     decode_as     into a run of `Entry`, made of each reading
+//     decode          into a run of readings
+//     decode_as       into a run of `Entry`, made of each reading
+//     fresh, turn     turn by turn, for a run of something else that is made of each reading
 #![tactic(auto)]
 
-ghost use Rattle.std.specs.Prelude.{◌≡◌, ◌<◌, length, Ok};
-ghost use Rattle.tables.specs.Table.{table_of};
-ghost use Rattle.tables.specs.Check.{check_of};
+ghost use Rattle.std.specs.Prelude.{◌≡◌, length};
 ghost use Rattle.reading.specs.declared.Reading.{Reading};
 ghost use Rattle.lent_readings.specs.Run.{placed};
 ghost use Rattle.lent_readings.specs.Clauses.{Seats, Walks, DecodesAs, Decodes};
 
 use fields::DecodeRefusal;
-use reading::{Answer, Decoded, Reading};
+use reading::{Answer, Decoded, Reading, Walk};
+use tables::CheckedTable;
+
+mod steps;
+
+pub use crate::steps::{decoded_of, fresh, is_over, place_of, reading_of, stores, turn};
+
+// A decode between two turns.
+#[derive(Clone, Copy)]
+pub struct Step {
+    // The reading is to be stored at `place`.
+    pub stores: bool,
+    // The decode is over: it answers `decoded`.
+    pub over: bool,
+    // Nothing has been done yet.
+    pub fresh: bool,
+    pub place: usize,
+    pub reading: Reading,
+    pub walk: Walk,
+    pub decoded: Decoded,
+}
 
 // What a run holds of a reading.
 pub trait Entry: Copy {
@@ -49,15 +70,14 @@ fn store<E: Entry>(out: &mut [E], place: usize, answer: Result<Answer, DecodeRef
 }
 
 // The walk through the working payload s, by an accepted table.
-fn walked<E: Entry>(words: &[u64], s: &[u8], out: &mut [E]) -> Decoded
-    requires { check_of (table_of words.now) ≡ Ok tt }
-    ensures { Walks E.one result out.new words.now s.now out.old }
+fn walked<E: Entry>(table: CheckedTable<'_>, s: &[u8], out: &mut [E]) -> Decoded
+    ensures { Walks E.one result out.new table.entry.words.now s.now out.old }
 {
     let room = out.len();
     let mut walk = reading::start();
     loop {
         let made = walk.progress.made;
-        let next = reading::next_field(words, s, room, walk);
+        let next = reading::next_field(table.words, s, room, walk);
         store(out, made, next.answer);
         if let Some(decoded) = reading::came_to(next) {
             return decoded;
@@ -79,7 +99,7 @@ pub fn decode_as<E: Entry>(
     match reading::prepare(words, received, padded) {
         Ok(()) => {
             let s = reading::pad_to_min_length(words, received, padded);
-            walked(words, s, out)
+            walked(CheckedTable { words }, s, out)
         }
         Err(refusal) => Decoded {
             end: Err(refusal),

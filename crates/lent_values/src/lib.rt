@@ -6,14 +6,13 @@
 #![tactic(auto)]
 
 ghost use Rattle.std.specs.Prelude.{◌≡◌, length, replicate};
-ghost use Rattle.tables.specs.Table.{table_of};
-ghost use Rattle.tables.specs.Check.{check_of};
 ghost use Rattle.lent_values.specs.Run.{offered_at};
 ghost use Rattle.lent_values.specs.Clauses.{Writes, Encodes};
 
 use bits::ByteCount;
 use descriptor::PgnValue;
 use offers::Offer;
+use tables::CheckedTable;
 use weighing::EncodeRefusal;
 use writing::Stroke;
 
@@ -29,18 +28,18 @@ fn offer_at(values: &[PgnValue], j: usize) -> Offer
 
 // The walk, by an accepted table, through a buffer of ones.
 fn written(
-    words: &[u64],
+    table: CheckedTable<'_>,
     values: &[PgnValue],
     lent: &[u8],
     buffer: &mut [u8],
 ) -> Result<ByteCount, EncodeRefusal>
-    requires { (check_of (table_of words.now) ≡ Ok tt) × (buffer.old ≡ replicate (length buffer.old) 0xff) }
-    ensures { Writes result buffer.new words.now values.now lent.now buffer.old }
+    requires { buffer.old ≡ replicate (length buffer.old) 0xff }
+    ensures { Writes result buffer.new table.entry.words.now values.now lent.now buffer.old }
 {
     let mut draft = writing::start();
     loop {
         let offer = offer_at(values, draft.pen.used);
-        let next = writing::write_next(words, buffer, lent, draft, offer);
+        let next = writing::write_next(table.words, buffer, lent, draft, offer);
         draft = next.draft;
         if let Stroke::Ended = next.stroke? {
             return Ok(writing::bytes_used(draft.pen.at));
@@ -59,5 +58,5 @@ pub fn encode(
     ensures { Encodes result buffer.new words.now values.now lent.now buffer.old }
 {
     writing::begin(words, buffer)?;
-    written(words, values, lent, buffer)
+    written(CheckedTable { words }, values, lent, buffer)
 }

@@ -17,10 +17,14 @@ use Rattle.reading.specs.Filling.{run_after}
 use Rattle.reading.specs.Decode.{decoded_of_lem}
 use Rattle.structs.specs.Structs.{structs_after}
 use Rattle.structs.proofs.record_of.Reads as record_of
+use Rattle.structs.proofs.RecordEntry.of.Reads as of
 use Rattle.structs.specs.contracts.decode_run as decode-run
 
 one-record-of : Fixes record_of.Post (λ κs x s. x)
 one-record-of = fixed (λ κs a x s p. p)
+
+one-of : Fixes of.Post (λ κs x s. x)
+one-of = fixed (λ κs a x s p. p)
 
 -- the contract of `decode_run`: of words, received payload, padding run and run of structs
 abbrev pub Says : (κs : Lfts 4) → Args decode-run.signature κs → Res decode-run.signature κs → AtExit decode-run.ended κs → Type 0

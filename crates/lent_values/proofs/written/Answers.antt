@@ -38,10 +38,10 @@ left words values {lent} {n} {d} {b} {o} {x} {after} accepted g eo ex ea =
 
 pub loop-init : goal.loop-init
 loop-init c =
-    let t = table_of c.args.words.now in
+    let t = table_of c.args.table.words.now in
     let vs = values_of c.args.values.now in
     let n = length c.args.buffer.now in
-    (c.requires.0, subst (λ (d : Draft). Going t vs c.args.lent.now n d c.args.buffer.now) (sym c.start-draft.ensures) (subst (λ (b : List ℕ). Going t vs c.args.lent.now n start_of b) (sym c.requires.1) (going t vs c.args.lent.now n)))
+    subst (λ (d : Draft). Going t vs c.args.lent.now n d c.args.buffer.now) (sym c.start-draft.ensures) (subst (λ (b : List ℕ). Going t vs c.args.lent.now n start_of b) (sym c.requires) (going t vs c.args.lent.now n))
 
 -- the walk has not ended
 goes : (k : Stroke) → (k ≡ Ended → ⊥) → goes_on_lem (Ok k) ≡ true
@@ -51,30 +51,30 @@ goes Moved h = refl
 goes Ended h = absurd (h refl)
 
 abbrev on : goal.In_default → Type 0
-on c = Going (table_of c.args.words.now) (values_of c.args.values.now) c.args.lent.now (length c.args.buffer.now) c.write_next-next.result.draft c.write_next-next.new.buffer
-    × (heft (table_of c.args.words.now) (values_of c.args.values.now) c.args.lent.now (length c.args.buffer.now) c.write_next-next.result.draft
-    < heft (table_of c.args.words.now) (values_of c.args.values.now) c.args.lent.now (length c.args.buffer.now) c.loop.draft)
+on c = Going (table_of c.args.table.words.now) (values_of c.args.values.now) c.args.lent.now (length c.args.buffer.now) c.write_next-next.result.draft c.write_next-next.new.buffer
+    × (heft (table_of c.args.table.words.now) (values_of c.args.values.now) c.args.lent.now (length c.args.buffer.now) c.write_next-next.result.draft
+    < heft (table_of c.args.table.words.now) (values_of c.args.values.now) c.args.lent.now (length c.args.buffer.now) c.loop.draft)
 
 more : (c : goal.In_default) → on c
 more c =
-    let l = left c.args.words.now c.args.values.now c.loop.invariant.0 c.loop.invariant.1 c.offer_at-offer.ensures c.write_next-next.ensures.0 c.write_next-next.ensures.1 in
+    let l = left c.args.table.words.now c.args.values.now c.args.table.accepted c.loop.invariant c.offer_at-offer.ensures c.write_next-next.ensures.0 c.write_next-next.ensures.1 in
     l.on (ap goes_on_lem c.in_ok-next.was ∙ goes c.in_ok-next.field-0 c.in_default.not-Ended)
 
 pub loop-smaller : goal.loop-smaller
 loop-smaller c = (more c).1
 
 pub loop-preserved : goal.loop-preserved
-loop-preserved c = (c.loop.invariant.0, (more c).0)
+loop-preserved c = (more c).0
 
 pub returns-in-Ended : goal.returns-in-Ended
 returns-in-Ended c =
-    let l = left c.args.words.now c.args.values.now c.loop.invariant.0 c.loop.invariant.1 c.offer_at-offer.ensures c.write_next-next.ensures.0 c.write_next-next.ensures.1 in
+    let l = left c.args.table.words.now c.args.values.now c.args.table.accepted c.loop.invariant c.offer_at-offer.ensures c.write_next-next.ensures.0 c.write_next-next.ensures.1 in
     let h = l.ends (c.in_ok-next.was ∙ ap Ok c.in-Ended.is) in
     (ap Ok c.bytes_used.ensures ∙ sym h.0, h.1)
 
 pub returns-in_err-next : goal.returns-in_err-next
 returns-in_err-next c =
-    let l = left c.args.words.now c.args.values.now c.loop.invariant.0 c.loop.invariant.1 c.offer_at-offer.ensures c.write_next-next.ensures.0 c.write_next-next.ensures.1 in
+    let l = left c.args.table.words.now c.args.values.now c.args.table.accepted c.loop.invariant c.offer_at-offer.ensures c.write_next-next.ensures.0 c.write_next-next.ensures.1 in
     let h = l.stops _ c.in_err-next.was in
     let e : c.from_residual.result ≡ Err c.in_err-next.field-0.0 = search rules in
     (e ∙ sym h.0, h.1)
