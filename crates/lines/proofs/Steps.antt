@@ -2,7 +2,7 @@
 -- `begins`, then `turn-put` or `turn-over` for each turn, and `ended`. A turn leaves less to do, by `left`. Assumes nothing.
 use mathlib.Core.Path.{◌≡◌, refl, sym, ap, ◌∙◌, subst}
 use mathlib.Core.Bool.{Bool, true, false, not}
-use mathlib.Core.List.{List, [], ◌∷◌}
+use mathlib.Core.List.{List}
 use Prim.Native.Nat.{ℕ, suc, ◌+◌, ◌-◌, ◌*◌, ◌≤◌, ◌<◌}
 use native.Mathlib.Omega.{arith}
 use borrow.Author.Tests.{not-true, not-false, le-ltb, ltb-true, ltb-false, le-leb, lt-leb}
@@ -11,8 +11,8 @@ use lib.ListN.{length, drop, length-drop}
 use Rattle.bits.specs.Bits.{pick}
 use Rattle.text.specs.Sheet.{Sheet, sheet, page_of, Puts}
 use Rattle.text.proofs.Sheets.{same}
-use Rattle.lines.specs.Machine.{Machine, Passed, passed, up_to_newline, feds, fits, answered_or, pass_from, pass_of}
-use Rattle.lines.specs.Held.{nothing_held, held_by, kept_by, line_in, held_after, buffer_after, Store, store, held}
+use Rattle.lines.specs.Machine.{Machine, Passed, passed, up_to_newline, fits, answered_or, pass_from, pass_of}
+use Rattle.lines.specs.Held.{nothing_held, line_in, held_after, buffer_after, Store, store, held}
 use Rattle.lines.specs.Steps.{passed_at, begun, took_of, line_after, answered_by}
 use Rattle.lines.specs.declared.Held.{Held}
 use Rattle.lines.specs.declared.Step.{Step as State}

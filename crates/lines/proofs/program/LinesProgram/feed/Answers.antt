@@ -1,6 +1,5 @@
 -- The buffer holds what is fed.
-use Rattle.std.proofs.Common.{sym, ap, ◌∙◌}
-use Rattle.lines.specs.Held.{store}
+use Rattle.std.proofs.Common.{sym}
 use Rattle.lines.specs.Machine.{up_to_newline}
 use Rattle.lines.proofs.Chunk.{held-feds}
 use Rattle.lines.proofs.program.LinesProgram.feed.Goals as goal

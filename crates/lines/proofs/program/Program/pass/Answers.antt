@@ -1,5 +1,5 @@
 -- What is left of the call comes to the call.
-use Rattle.std.proofs.Common.{rules, arith, refl, sym, ap, ◌∙◌}
+use Rattle.std.proofs.Common.{arith, refl, sym}
 use Rattle.lines.specs.Machine.{pass_from}
 use Rattle.lines.proofs.Chunk.{few, chunk-done, line-waits, line-answered, at-end, answer-fits}
 use Rattle.lines.proofs.program.Program.pass.Goals.{then-waits+else-out-to, else-waits}

@@ -1,5 +1,5 @@
 -- The invariant: what is left of the call comes to the call.
-use Rattle.std.proofs.Common.{length, ◌-◌, ◌≤◌, ◌≡◌}
+use Rattle.std.proofs.Common.{length, ◌-◌, ◌≤◌}
 use Rattle.text.specs.Sheet.{sheet}
 use Rattle.lines.specs.Machine.{pass_of}
 use Rattle.lines.proofs.Chunk.{Way}
