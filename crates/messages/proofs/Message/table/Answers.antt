@@ -10,4 +10,4 @@ use Rattle.messages.proofs.Message.table.Goals as goal
 pub invariant_of-result : goal.invariant_of-result
 invariant_of-result c =
     let checked = λ (ws : List ℕ). check_of (table_of ws) in
-    record { accepted = ap checked c.words.ensures ∙ accepted c.args.self; }
+    record { accepted = ap checked c.words.ensures ∙ accepted c.args.self }
