@@ -37,6 +37,10 @@ more text i l p q = rw (add-one, take-suc text i 0) (then p q)
 pub same : {old new : List ℕ} {at to : ℕ} {a b : List ℕ} → a ≡ b → Puts old at a new to → Puts old at b new to
 same e p = record { is = p.is ∙ ap (put_all _) e }
 
+-- another name for the place after it
+pub placed : {old new text : List ℕ} {at to by : ℕ} → to ≡ by → Puts old at text new to → Puts old at text new by
+placed {old} {new} {text} {at} e p = subst (λ (n : ℕ). Puts old at text new n) e p
+
 pub put-room : (page : List ℕ) (at b : ℕ) → at < length page → Puts page at (b ∷ []) (set page at b) (at + 1)
 unfolding put_all
 put-room page at b l = record { is = rw (lt-ltb at (length page) l) }

@@ -1,5 +1,5 @@
 // A page and the bytes on it.
-ghost use Rattle.std.specs.Prelude.{◌≡◌, [], ◌∷◌};
+ghost use Rattle.std.specs.Prelude.{◌≡◌, ◌+◌, ◌≤◌, [], ◌∷◌, length};
 ghost use Rattle.text.specs.Sheet.{Puts, PutsOn};
 
 // The place after a text that found no room. It is past every page.
@@ -46,10 +46,24 @@ pub(crate) fn put_at(page: &mut [u8], at: usize, b: u8) -> usize
     LOST
 }
 
-// All of text, from a place on.
+// All of text, from a place where there is room for it.
+fn copy_at(page: &mut [u8], at: usize, text: &[u8])
+    requires { at + length text.now ≤ length page.old }
+    ensures { Puts page.old at text.now page.new (at + length text.now) }
+{
+    for i in 0..text.len() {
+        page[at + i] = text[i];
+    }
+}
+
+// All of text, from a place on: at once, where there is room for it.
 fn put_text_at(page: &mut [u8], at: usize, text: &[u8]) -> usize
     ensures { Puts page.old at text.now page.new result }
 {
+    if at <= page.len() && text.len() <= page.len() - at {
+        copy_at(page, at, text);
+        return at + text.len();
+    }
     let mut to = at;
     for b in text {
         to = put_at(page, to, *b);
