@@ -23,6 +23,7 @@ impl Width {
     }
 
     // In range, or 10.
+    #[inline(always)]
     pub(crate) fn exactly(self, negative: bool, magnitude: u64) -> Result<u64, NumberRefusal>
         ensures { result ≡ exactly_of self.bits self.signed negative magnitude }
     {
