@@ -53,10 +53,11 @@ fn read<R: Read>(reader: &mut R, input: &mut [u8], at: Io) -> Result<Option<Io>,
     ensures at_end { IsLast result (R.remaining reader.new) }
     ensures over { result ≡ Ok None → (at.inside ≡ false) × IsAtEnd (R.remaining reader.new) }
 {
+    let n = reader.read(input).map_err(Failure::Input)?;
+    // Of a buffer without a byte a read tells nothing.
     if input.is_empty() {
         return Err(Failure::Unfit);
     }
-    let n = reader.read(input).map_err(Failure::Input)?;
     if n == 0 {
         return Ok(last(input, at));
     }
