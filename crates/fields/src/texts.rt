@@ -68,9 +68,7 @@ impl FieldAt {
     ) -> Result<FieldRead, DecodeRefusal>
         ensures { result ≡ text_read_lem room self.i taken place n encoding }
     {
-        if let Err(refusal) = room {
-            return Err(self.refused(refusal));
-        }
+        room.map_err(|refusal| self.refused(refusal))?;
         Ok(FieldRead::Got {
             bits: BitPos(taken),
             raw: None,
@@ -120,23 +118,21 @@ impl FieldAt {
         let c = Cursor {
             at: BitPos(self.at + 8),
         };
-        let encoding = match c.read_u8(s, 8) {
-            Ok(read) => read.value,
-            Err(refusal) => return Err(self.refused(refusal)),
-        };
+        let encoding = c.read_u8(s, 8).map_err(|refusal| self.refused(refusal))?;
         let n = len - 2;
         let room = text_room(s, self.at + 16, n);
         let place = self.at / 8 + 2;
-        self.text(room, 16 + 8 * n, place, n, Some(encoding))
+        self.text(room, 16 + 8 * n, place, n, Some(encoding.value))
     }
 
     pub(crate) fn lau(self, s: &[u8]) -> Result<FieldRead, DecodeRefusal>
         ensures { result ≡ read_over (taken_by shape.Lau (payload_of s.now) self.i self.early self.f.width self.at) shape.Lau self.f (payload_of s.now) self.at }
     {
-        match self.cursor().read_u64(s, 8) {
-            Ok(length) => self.lau_text(s, length.value as usize),
-            Err(refusal) => Err(self.refused(refusal)),
-        }
+        let length = self
+            .cursor()
+            .read_u64(s, 8)
+            .map_err(|refusal| self.refused(refusal))?;
+        self.lau_text(s, length.value as usize)
     }
 
     // A StringLz with its length byte.
@@ -155,9 +151,10 @@ impl FieldAt {
     pub(crate) fn lz(self, s: &[u8]) -> Result<FieldRead, DecodeRefusal>
         ensures { result ≡ read_over (taken_by shape.Lz (payload_of s.now) self.i self.early self.f.width self.at) shape.Lz self.f (payload_of s.now) self.at }
     {
-        match self.cursor().read_u64(s, 8) {
-            Ok(length) => self.lz_text(s, length.value as usize),
-            Err(refusal) => Err(self.refused(refusal)),
-        }
+        let length = self
+            .cursor()
+            .read_u64(s, 8)
+            .map_err(|refusal| self.refused(refusal))?;
+        self.lz_text(s, length.value as usize)
     }
 }
