@@ -6,5 +6,3 @@ pub mod Exact
 mod Feeding
 -- every contract leaves one answer and one content of each lent buffer
 mod OneAnswer
--- the number of an answer, and what it carries, are those of its refusal
-pub mod Numbered
