@@ -1,9 +1,8 @@
 -- Text after text on a lent page. Assumes nothing.
-use Rattle.std.proofs.Common.{◌≡◌, refl, sym, ap, subst, ◌∙◌, ℕ, ◌+◌, ◌<◌, ◌≤◌, List, [], ◌∷◌, ◌++◌, length, take, get_or, set, add-one, take-suc}
-use borrow.Author.Tests.{lt-ltb, le-ltb}
+use Rattle.std.proofs.Common.{◌≡◌, refl, sym, ap, subst, ◌∙◌, ℕ, List, [], ◌++◌}
 use denote.Ref.{at_last}
 use Rattle.text.specs.declared.pages.Page.{Page}
-use Rattle.text.specs.Sheet.{Sheet, sheet, page_of, place_of, lost, put_all, showing, Puts, PutsOn}
+use Rattle.text.specs.Sheet.{Sheet, sheet, page_of, place_of, put_all, showing, Puts, PutsOn}
 use Rattle.text.proofs.Sheets.{put-append, put-none}
 
 again : (s : Sheet) → sheet (page_of s) (place_of s) ≡ s
@@ -25,18 +24,6 @@ nothing page = record { is = ap (showing page) (sym (put-none (sheet page.bytes.
 -- another name for the text
 pub same : {old new : Page} {a b : List ℕ} → a ≡ b → PutsOn old a new → PutsOn old b new
 same {old} e p = record { is = p.is ∙ ap (λ (x : List ℕ). showing old (put_all (sheet old.bytes.now old.at) x)) e }
-
--- one byte more of a text
-pub more : {old mid new : Page} (text : List ℕ) (i : ℕ) → i < length text → PutsOn old (take i text) mid → PutsOn mid (get_or text i 0 ∷ []) new → PutsOn old (take (i + 1) text) new
-more text i l p q = rw (add-one, take-suc text i 0) (then p q)
-
-pub put-room : (page : Page) (b : ℕ) → page.at < length page.bytes.now → PutsOn page (b ∷ []) (record { bytes = at_last page.bytes (set page.bytes.now page.at b); at = page.at + 1 })
-unfolding put_all
-put-room page b l = record { is = rw (lt-ltb page.at (length page.bytes.now) l) refl }
-
-pub put-lost : (page : Page) (b : ℕ) → length page.bytes.now ≤ page.at → PutsOn page (b ∷ []) (record { bytes = page.bytes; at = lost })
-unfolding put_all
-put-lost page b l = record { is = rw (le-ltb page.at (length page.bytes.now) l) refl }
 
 -- what is put on the bytes of a lent page, from its place on, is put on the page
 pub on-page : (page : Page) {text new : List ℕ} {to : ℕ} → Puts page.bytes.now page.at text new to → PutsOn page text (record { bytes = at_last page.bytes new; at = to })
